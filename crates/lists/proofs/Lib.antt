@@ -1,0 +1,4 @@
+pub mod Order
+pub mod FrontLaws
+pub mod PutLaws
+pub mod JoinedLaws

@@ -1,0 +1,1 @@
+// Definitions and laws on lists; no function.

@@ -1,0 +1,1 @@
+// The meaning of a refusal, and its laws; no function.
