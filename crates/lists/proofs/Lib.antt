@@ -1,4 +1,5 @@
 pub mod Order
 pub mod FrontLaws
-pub mod PutLaws
 pub mod JoinedLaws
+pub mod PutLaws
+pub mod TestLaws

@@ -18,3 +18,10 @@ lt-or-ge k n = by-test k n (ltb k n) refl
 pub order {ℓ} : {P : Type ℓ} (k n : ℕ) → (k < n → P) → (k ≡ n → P) → (n < k → P) → P
 order k n lt eq gt =
     ⊎-elim lt (λ ge. ⊎-elim (λ l. eq (omega arith)) (λ g. gt (omega arith)) (lt-or-ge k (n + 1))) (lt-or-ge k n)
+
+-- an order or an equation that cannot fail holds
+pub le-stable : {a b : ℕ} → ((a ≤ b → ⊥) → ⊥) → a ≤ b
+le-stable {a} {b} h = ⊎-elim (λ lt. absurd (h (λ le. omega arith))) (λ ge. ge) (lt-or-ge b a)
+
+pub eq-stable : {a b : ℕ} → ((a ≡ b → ⊥) → ⊥) → a ≡ b
+eq-stable {a} {b} h = order a b (λ lt. absurd (h (λ e. omega arith))) (λ e. e) (λ gt. absurd (h (λ e. omega arith)))

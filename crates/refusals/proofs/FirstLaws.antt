@@ -1,13 +1,13 @@
 -- The laws of the first refusal that applies.
-use Prim.Native.Nat.{ℕ, zero, suc, _<_, _≤_}
-use mathlib.Core.Path.{_≡_, refl, sym, _∙_, subst, ap}
-use mathlib.Core.Logic.{_⊎_, inl, inr, ⊎-elim}
+use Prim.Native.Nat.{ℕ, zero, suc, _<_}
+use mathlib.Core.Path.{_≡_, refl}
 use mathlib.Core.List.{List, [], _∷_, _++_}
 use lib.ListN.{length}
 use native.Mathlib.Omega.{arith}
 use native.Mathlib.Nat.{not-suc-le-zero, le-of-suc-le-suc}
 use Rattle.lists.proofs.Order.{order}
-use Rattle.refusals.specs.First.{Row, row, Passed, Lowest, rowAt, First, given, free}
+use Rattle.refusals.specs.Table.{Refusal, short, version, counts, layout, field, apart, counts-fail, stuck, no-retiming, list-stuck, room, hand, negative, slow, token, number}
+use Rattle.refusals.specs.First.{Row, row, Passed, Lowest, nth, First, given, free}
 
 lowest-unique : {r : Row} {p p′ : ℕ} → Lowest r p → Lowest r p′ → p ≡ p′
 lowest-unique {r} {p} {p′} l l′ =
@@ -17,14 +17,14 @@ lowest-unique {r} {p} {p′} l l′ =
     (λ gt. absurd (l .none-below p′ gt (l′ .applies)))
 
 -- the row itself is the first that applies
-pub here : {r : Row} {rows : List Row} {place : ℕ} → Lowest r place → First (r ∷ rows) (r .number) place
+pub here : {r : Row} {rows : List Row} {place : ℕ} → Lowest r place → First (r ∷ rows) (number (r .refusal)) place
 here l = given 0 (omega arith) (λ j b. absurd (not-suc-le-zero b)) l
 
 -- a row without a place
-pub here-now : {number : ℕ} {when : Type 0} {rows : List Row} → when → First (row number when ∷ rows) number 0
-here-now w = here (record { applies = w; none-below = λ i l a. not-suc-le-zero l })
+pub here-now : (refusal : Refusal) {when : Type 0} {rows : List Row} → when → First (row refusal when ∷ rows) (number refusal) 0
+here-now refusal w = here (record { applies = w; none-below = λ i l a. not-suc-le-zero l })
 
-after : (r : Row) (rows : List Row) (n : ℕ) → Passed r → ((j : ℕ) → j < n → Passed (rowAt rows j)) → (j : ℕ) → j < suc n → Passed (rowAt (r ∷ rows) j)
+after : (r : Row) (rows : List Row) (n : ℕ) → Passed r → ((j : ℕ) → j < n → Passed (nth rows j)) → (j : ℕ) → j < suc n → Passed (nth (r ∷ rows) j)
 after r rows n p f zero b = p
 after r rows n p f (suc j) b = f j (le-of-suc-le-suc b)
 
@@ -37,7 +37,7 @@ passed {r} {rows} p (free f) = free (after r rows (length rows) p f)
 pub none : First [] 0 0
 none = free (λ j b. absurd (not-suc-le-zero b))
 
-given-extend : (rows more : List Row) (i : ℕ) {place : ℕ} → i < length rows → ((j : ℕ) → j < i → Passed (rowAt rows j)) → Lowest (rowAt rows i) place → First (rows ++ more) (rowAt rows i .number) place
+given-extend : (rows more : List Row) (i : ℕ) {place : ℕ} → i < length rows → ((j : ℕ) → j < i → Passed (nth rows j)) → Lowest (nth rows i) place → First (rows ++ more) (number (nth rows i .refusal)) place
 given-extend [] more i b f l = absurd (not-suc-le-zero b)
 given-extend (r ∷ rows) more zero b f l = here l
 given-extend (r ∷ rows) more (suc i) b f l =
@@ -48,13 +48,30 @@ pub extend : (rows more : List Row) {number place : ℕ} → First rows number p
 extend rows more (given i b f l) n = given-extend rows more i b f l
 extend rows more (free f) n = absurd (n refl)
 
--- every row has a number, and none was given: then each applies nowhere
-pub all-passed : {rows : List Row} {number place : ℕ} → ((j : ℕ) → j < length rows → 0 < rowAt rows j .number) → First rows number place → number ≡ 0 → (j : ℕ) → j < length rows → Passed (rowAt rows j)
-all-passed p (given i b f l) e = absurd (omega (arith, p i b))
-all-passed p (free f) e = f
+number-positive : (x : Refusal) → 0 < number x
+number-positive short = omega arith
+number-positive version = omega arith
+number-positive counts = omega arith
+number-positive layout = omega arith
+number-positive field = omega arith
+number-positive apart = omega arith
+number-positive counts-fail = omega arith
+number-positive stuck = omega arith
+number-positive no-retiming = omega arith
+number-positive list-stuck = omega arith
+number-positive room = omega arith
+number-positive hand = omega arith
+number-positive negative = omega arith
+number-positive slow = omega arith
+number-positive token = omega arith
+
+-- none was given, so each row applies nowhere
+pub all-passed : {rows : List Row} {k p : ℕ} → First rows k p → k ≡ 0 → (j : ℕ) → j < length rows → Passed (nth rows j)
+all-passed {rows} (given i b f l) e = absurd (omega (arith, number-positive (nth rows i .refusal)))
+all-passed (free f) e = f
 
 -- where every row applies nowhere, the first is among those that follow
-pub append : (rows : List Row) {more : List Row} {number place : ℕ} → ((j : ℕ) → j < length rows → Passed (rowAt rows j)) → First more number place → First (rows ++ more) number place
+pub append : (rows : List Row) {more : List Row} {number place : ℕ} → ((j : ℕ) → j < length rows → Passed (nth rows j)) → First more number place → First (rows ++ more) number place
 append [] p f = f
 append (r ∷ rows) p f = passed (p 0 (omega arith)) (append rows (λ j h. p (suc j) (omega arith)) f)
 

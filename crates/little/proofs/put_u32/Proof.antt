@@ -1,4 +1,5 @@
-use Rattle.lists.proofs.PutLaws.{put-more}
+use mathlib.Core.Path.{refl}
+use Rattle.lists.proofs.PutLaws.{wrote, wrote-more}
 use Rattle.little.specs.Little.{four}
 use Rattle.little.proofs.LittleLaws.{length-two}
 use borrow.Author.Needs.{needs}
@@ -36,8 +37,9 @@ same-length c = search needs
 returns : tie.Need-returns
 unfolding four
 returns c =
-    rw (c .before .before .put-u162 .ensures, c .before .before .before .before .before .before .put-u16 .ensures)
-    (put-more _ _ _ _ _ (length-two _))
+    wrote-more _ (wrote (c .before .before .before .before .before .before .put-u16 .ensures) (length-two _)) refl
+    (c .before .before .put-u162 .ensures) (length-two _)
+    .is
 
 pub put-u32-spec : {M : Type 1} → statement M
 put-u32-spec =

@@ -1,0 +1,15 @@
+-- The laws of what a test tells.
+use Prim.Native.Nat.{ℕ}
+use mathlib.Core.Path.{_≡_}
+use mathlib.Core.Bool.{Bool, true, false}
+use native.Mathlib.Omega.{arith}
+use Rattle.lists.specs.Test.{Tells}
+
+differ : {b : Bool} → b ≡ true → b ≡ false → ⊥
+differ t f = let z : _≡_ {A = ℕ} 0 1 = cc in omega arith
+
+pub tells-true : {P : Type 0} {b : Bool} → b ≡ true → P → Tells b P
+tells-true t p = record { holds = λ e. p; fails = λ e q. differ t e }
+
+pub tells-false : {P : Type 0} {b : Bool} → b ≡ false → (P → ⊥) → Tells b P
+tells-false f n = record { holds = λ e. absurd (differ e f); fails = λ e. n }

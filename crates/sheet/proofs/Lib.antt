@@ -1,0 +1,2 @@
+pub mod FormatLaws
+pub mod ReadLaws

@@ -1,0 +1,72 @@
+-- The laws of reading.
+use Prim.Native.Nat.{ℕ, _≤_, _<_}
+use mathlib.Core.Path.{_≡_, refl, ap, sym, _∙_}
+use mathlib.Core.List.{List, [], _∷_}
+use native.Mathlib.Omega.{arith}
+use Rattle.lists.specs.Lowest.{LowestFailing}
+use Rattle.lists.proofs.Order.{le-stable, eq-stable}
+use Rattle.refusals.specs.Table.{field, number}
+use Rattle.refusals.specs.First.{First}
+use Rattle.refusals.proofs.FirstLaws.{here, passed, none, extend, append, all-passed}
+use Rattle.sheet.specs.declared.Sheet.{Sheet}
+use Rattle.sheet.specs.declared.Reading.{Reading}
+use Rattle.sheet.specs.Limits.{SheetQueueFits}
+use Rattle.sheet.specs.Format.{sheetOf}
+use Rattle.sheet.specs.Read.{HeaderFits, Laid, Passes, headerRows, fieldRow, readRows, blank, Reads}
+
+header-stable : (s : List ℕ) → ((HeaderFits s → ⊥) → ⊥) → HeaderFits s
+header-stable s h =
+    record {
+      counts =
+          record {
+            some = le-stable (λ n. h (λ f. n (f .counts .some)));
+            stations = le-stable (λ n. h (λ f. n (f .counts .stations)));
+            queues = le-stable (λ n. h (λ f. n (f .counts .queues)));
+          };
+      zero = eq-stable (λ n. h (λ f. n (f .zero)));
+    }
+
+laid-stable : (s : List ℕ) → ((Laid s → ⊥) → ⊥) → Laid s
+laid-stable s h =
+    record {
+      stations-at = eq-stable (λ n. h (λ f. n (f .stations-at)));
+      queues-at = eq-stable (λ n. h (λ f. n (f .queues-at)));
+      ends = eq-stable (λ n. h (λ f. n (f .ends)));
+    }
+
+-- where none of refusals 1 to 4 is given, the header and the layout are right
+pub passes : (s : List ℕ) {k p : ℕ} → First (headerRows s) k p → k ≡ 0 → Passes s
+passes s f e =
+    let all = all-passed f e in
+    record {
+      known = eq-stable (all 1 (omega arith) 0);
+      header = header-stable s (all 2 (omega arith) 0);
+      laid = laid-stable s (all 3 (omega arith) 0);
+    }
+
+-- a refusal by the header is the first
+pub refused-header : (s : List ℕ) {k p : ℕ} → First (headerRows s) k p → (k ≡ 0 → ⊥) → First (readRows s) k p
+refused-header s f n = extend (headerRows s) (fieldRow (sheetOf s) ∷ []) f n
+
+module _ (s : List ℕ) (sheet : Sheet) (is : sheet ≡ sheetOf s) where
+  pub few-queues : Passes s → sheet .m ≤ 64
+  unfolding sheetOf
+  few-queues ok = rw is (ok .header .counts .queues)
+
+  module _ {k : ℕ} (header : First (headerRows s) k 0) (fits : k ≡ 0) {bad : ℕ} (lowest : LowestFailing (SheetQueueFits sheet) (sheet .m) bad) where
+    -- the lowest bad queue is refused
+    pub refused-field : bad < sheet .m → First (readRows s) 5 bad
+    refused-field l =
+        append (headerRows s) (all-passed header fits)
+        (rw (← is)
+        (here {r = fieldRow sheet} (record { applies = (l, lowest .fails l); none-below = λ i b a. a .1 (lowest .below i b) })))
+
+    -- no queue is bad
+    pub accepted : sheet .m ≤ bad → First (readRows s) 0 0
+    accepted l =
+        append (headerRows s) (all-passed header fits)
+        (rw (← is) (passed {r = fieldRow sheet} (λ e a. a .1 (lowest .below e (omega (arith, a .0)))) none))
+
+-- a refusal is read
+pub reads-refused : (s : List ℕ) {r : Reading} (k p : ℕ) → First (readRows s) k p → (k ≡ 0 → ⊥) → r ≡ record { number = k; place = p; sheet = blank } → Reads s r
+reads-refused s k p f n e = rw e (record { verdict = f; accepted = λ z. absurd (n z); refused = λ z. refl })

@@ -1,0 +1,4 @@
+pub mod Limits
+pub mod Format
+pub mod Read
+pub mod Write

@@ -1,0 +1,40 @@
+//! Answers a question stream. It is written from the papers alone, so that the library's answers
+//! can be compared with it byte for byte.
+
+mod fields;
+mod read;
+mod refusal;
+mod sheet;
+mod stream;
+mod write;
+
+use std::io::{self, Read, Write};
+use stream::Question;
+
+const LONGEST_BODY: usize = 70_000;
+
+fn main() -> io::Result<()> {
+    let mut input = Vec::new();
+    io::stdin().read_to_end(&mut input)?;
+    let mut text = String::new();
+    for (index, question) in stream::questions(&input).iter().enumerate() {
+        text.push_str(&format!("question {index}\n"));
+        match answer(question) {
+            Some(lines) => text.push_str(&lines),
+            None => text.push_str("malformed\n"),
+        }
+    }
+    io::stdout().write_all(text.as_bytes())
+}
+
+/// The lines of the answer, or nothing if the question is malformed. Each kind is one module.
+fn answer(question: &Question) -> Option<String> {
+    if !question.whole || question.body.len() > LONGEST_BODY {
+        return None;
+    }
+    match question.kind {
+        3 => Some(read::answer(question.body)),
+        4 => write::answer(question.body),
+        _ => None,
+    }
+}

@@ -1,0 +1,41 @@
+//! Little-endian numbers in bytes.
+
+pub fn u16_at(bytes: &[u8], place: usize) -> u16 {
+    u16::from_le_bytes([bytes[place], bytes[place + 1]])
+}
+
+pub fn u32_at(bytes: &[u8], place: usize) -> u32 {
+    u32::from(u16_at(bytes, place)) + 65_536 * u32::from(u16_at(bytes, place + 2))
+}
+
+/// Takes one field after the other off a body; nothing is had once the body is too short.
+pub struct Fields<'a> {
+    rest: &'a [u8],
+}
+
+impl<'a> Fields<'a> {
+    pub fn of(body: &'a [u8]) -> Fields<'a> {
+        Fields { rest: body }
+    }
+
+    pub fn u16(&mut self) -> Option<u16> {
+        Some(u16_at(self.take(2)?, 0))
+    }
+
+    pub fn u32(&mut self) -> Option<u32> {
+        Some(u32_at(self.take(4)?, 0))
+    }
+
+    pub fn at_end(&self) -> bool {
+        self.rest.is_empty()
+    }
+
+    fn take(&mut self, count: usize) -> Option<&'a [u8]> {
+        if self.rest.len() < count {
+            return None;
+        }
+        let (taken, rest) = self.rest.split_at(count);
+        self.rest = rest;
+        Some(taken)
+    }
+}

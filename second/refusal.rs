@@ -1,0 +1,24 @@
+//! The table of refusals and the line that tells one.
+
+pub enum Refusal {
+    Short,
+    Version,
+    Counts,
+    Layout,
+    /// Holds the lowest queue with a bad field.
+    Field(usize),
+    Room,
+}
+
+/// Every refusal is printed here, whichever question met it.
+pub fn line(refusal: &Refusal) -> String {
+    let (number, word, place) = match refusal {
+        Refusal::Short => (1, "short", 0),
+        Refusal::Version => (2, "version", 0),
+        Refusal::Counts => (3, "counts", 0),
+        Refusal::Layout => (4, "layout", 0),
+        Refusal::Field(queue) => (5, "field", *queue),
+        Refusal::Room => (11, "room", 0),
+    };
+    format!("refused {number} {word} place {place}\n")
+}
