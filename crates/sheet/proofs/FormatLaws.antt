@@ -4,6 +4,7 @@ use mathlib.Core.Path.{_≡_, refl, ap, ap₂, _∙_}
 use mathlib.Core.List.{List}
 use lib.ListN.{length, length-append}
 use native.Mathlib.Omega.{arith}
+use Rattle.lists.specs.Joined.{joined}
 use Rattle.lists.proofs.JoinedLaws.{length-joined}
 use Rattle.little.specs.Little.{Apart, columnAt, two, four}
 use Rattle.sheet.specs.declared.Sheet.{Sheet}
@@ -75,10 +76,15 @@ pub length-queue : (source sink produced consumed delay : List ℕ) (e : ℕ) �
 unfolding queueBytes two
 length-queue source sink produced consumed delay e = refl
 
+pub length-stations : (f : Sheet) → length (joined (f .n) (stationBytes (f .tag) (f .time))) ≡ 4 * f .n
+length-stations f = length-joined 4 (stationBytes (f .tag) (f .time)) (length-station (f .tag) (f .time)) (f .n)
+
+pub length-queues : (f : Sheet) → length (joined (f .m) (queueBytes (f .source) (f .sink) (f .produced) (f .consumed) (f .delay))) ≡ 10 * f .m
+length-queues f =
+    length-joined 10 (queueBytes (f .source) (f .sink) (f .produced) (f .consumed) (f .delay))
+    (length-queue (f .source) (f .sink) (f .produced) (f .consumed) (f .delay)) (f .m)
+
 -- the length of a sheet
 pub length-bytes : (f : Sheet) → length (bytesOf f) ≡ 20 + 4 * f .n + 10 * f .m
 unfolding bytesOf
-length-bytes f =
-    let station = length-joined 4 (stationBytes (f .tag) (f .time)) (length-station (f .tag) (f .time)) (f .n) in
-    let queue = length-joined 10 (queueBytes (f .source) (f .sink) (f .produced) (f .consumed) (f .delay)) (length-queue (f .source) (f .sink) (f .produced) (f .consumed) (f .delay)) (f .m) in
-    rw (length-append, length-append, length-header, station, queue)
+length-bytes f = rw (length-append, length-append, length-header, length-stations f, length-queues f)

@@ -3,24 +3,28 @@ use Prim.Native.Nat.{ℕ, _<_}
 use mathlib.Core.Path.{_≡_}
 use mathlib.Core.List.{List, [], _∷_, _++_}
 use lib.ListN.{length, drop}
-use Rattle.refusals.specs.Table.{counts, room}
+use Rattle.refusals.specs.Table.{counts}
 use Rattle.refusals.specs.Table.{version as wrong-version}
+use Rattle.refusals.specs.Table.{room as too-short}
 use Rattle.refusals.specs.First.{Row, row, First}
 use Rattle.sheet.specs.declared.Sheet.{Sheet}
 use Rattle.sheet.specs.declared.Written.{Written}
 use Rattle.sheet.specs.Limits.{CountsFit}
-use Rattle.sheet.specs.Format.{bytesOf}
+use Rattle.sheet.specs.Format.{sheetEnd, bytesOf}
 use Rattle.sheet.specs.Read.{fieldRow}
 
--- the fields handed over are those of n stations and m queues
-pub record Handed (f : Sheet) : Type 0 where
-  pub tags : length (f .tag) ≡ f .n
-  pub times : length (f .time) ≡ f .n
-  pub sources : length (f .source) ≡ f .m
-  pub sinks : length (f .sink) ≡ f .m
-  pub produceds : length (f .produced) ≡ f .m
-  pub consumeds : length (f .consumed) ≡ f .m
-  pub delays : length (f .delay) ≡ f .m
+-- the columns handed over are those of n stations and m queues
+pub record Handed (n m : ℕ) (tag time source sink produced consumed delay : List ℕ) : Type 0 where
+  pub tags : length tag ≡ n
+  pub times : length time ≡ n
+  pub sources : length source ≡ m
+  pub sinks : length sink ≡ m
+  pub produceds : length produced ≡ m
+  pub consumeds : length consumed ≡ m
+  pub delays : length delay ≡ m
+
+abbrev pub SheetHanded : Sheet → Type 0
+SheetHanded f = Handed (f .n) (f .m) (f .tag) (f .time) (f .source) (f .sink) (f .produced) (f .consumed) (f .delay)
 
 -- the sheet of the fields handed over
 abbrev pub sheetFrom : (version n m target : ℕ) (tag time source sink produced consumed delay : List ℕ) → Sheet
@@ -38,16 +42,23 @@ sheetFrom version n m target tag time source sink produced consumed delay = reco
   delay = delay;
 }
 
-abbrev pub writeRows : Sheet → List ℕ → List Row
-writeRows f out =
+-- refusals 2, 3, 5 and 11, for a buffer of room bytes
+abbrev pub writeRows : (f : Sheet) (room : ℕ) → List Row
+writeRows f room =
     row wrong-version (f .version ≡ 1 → ⊥)
-    ∷ row counts (CountsFit (f .n) (f .m) × Handed f → ⊥)
+    ∷ row counts (CountsFit (f .n) (f .m) × SheetHanded f → ⊥)
     ∷ fieldRow f
-    ∷ row room (length out < length (bytesOf f))
+    ∷ row too-short (room < sheetEnd (f .version) (f .n) (f .m))
     ∷ []
 
--- the first refusal that applies and an untouched buffer, or the sheet's bytes at the buffer's front and its rest as it was
+-- the first of the rows that applies, or the number of bytes needed
+pub record Judges (rows : List Row) (needed : ℕ) (r : Written) : Type 0 where
+  pub verdict : First rows (r .number) (r .place)
+  pub accepted : r .number ≡ 0 → r .length ≡ needed
+  pub refused : (r .number ≡ 0 → ⊥) → r .length ≡ 0
+
+-- a lent buffer afterwards: the sheet's bytes at its front and its rest as it was, or on a refusal all of it as it was
 pub record Writes (f : Sheet) (before after : List ℕ) (r : Written) : Type 0 where
-  pub verdict : First (writeRows f before) (r .number) (r .place)
-  pub accepted : r .number ≡ 0 → (r .length ≡ length (bytesOf f)) × (after ≡ bytesOf f ++ drop (length (bytesOf f)) before)
-  pub refused : (r .number ≡ 0 → ⊥) → (r .length ≡ 0) × (after ≡ before)
+  pub judged : Judges (writeRows f (length before)) (sheetEnd (f .version) (f .n) (f .m)) r
+  pub accepted : r .number ≡ 0 → after ≡ bytesOf f ++ drop (length (bytesOf f)) before
+  pub refused : (r .number ≡ 0 → ⊥) → after ≡ before

@@ -3,6 +3,9 @@ mod limits;
 mod reader;
 mod writer;
 
+pub use reader::read;
+pub use writer::write;
+
 // A sheet's numbers. Entries past n stations and m queues are 0.
 pub struct Sheet {
     pub version: u16,

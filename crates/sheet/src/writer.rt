@@ -8,8 +8,8 @@ ghost use Rattle.lists.specs.Joined.{joined};
 ghost use Rattle.lists.specs.Test.{Tells};
 ghost use Rattle.little.specs.Little.{two};
 ghost use Rattle.sheet.specs.Limits.{CountsFit, Columns};
-ghost use Rattle.sheet.specs.Format.{headerBytes, stationBytes, queueBytes};
-ghost use Rattle.sheet.specs.Write.{sheetFrom, Handed, Writes};
+ghost use Rattle.sheet.specs.Format.{sheetEnd, headerBytes, stationBytes, queueBytes};
+ghost use Rattle.sheet.specs.Write.{sheetFrom, Handed, writeRows, Judges, Writes};
 use crate::Written;
 use crate::limits::counts_fit;
 use crate::limits::first_bad;
@@ -27,7 +27,7 @@ fn handed(
     consumed: &[u16],
     delay: &[u16],
 ) -> bool
-    ensures { λ r. ⌜ Tells r (Handed (sheetFrom 0 n m 0 (now (tag .entry)) (now (time .entry)) (now (source .entry)) (now (sink .entry)) (now (produced .entry)) (now (consumed .entry)) (now (delay .entry)))) ⌝ }
+    ensures { λ r. ⌜ Tells r (Handed n m (now (tag .entry)) (now (time .entry)) (now (source .entry)) (now (sink .entry)) (now (produced .entry)) (now (consumed .entry)) (now (delay .entry))) ⌝ }
 {
     if tag.len() != n {
         return false;
@@ -136,4 +136,84 @@ fn refused(number: u32, place: u32) -> Written
         place,
         length: 0,
     }
+}
+
+// What writing answers for a buffer of room bytes; the target plays no part.
+fn judge(
+    version: u16,
+    n: usize,
+    m: usize,
+    tag: &[u16],
+    time: &[u16],
+    source: &[u16],
+    sink: &[u16],
+    produced: &[u16],
+    consumed: &[u16],
+    delay: &[u16],
+    room: usize,
+) -> Written
+    ensures { λ r. ⌜ Judges (writeRows (sheetFrom version n m 0 (now (tag .entry)) (now (time .entry)) (now (source .entry)) (now (sink .entry)) (now (produced .entry)) (now (consumed .entry)) (now (delay .entry))) room) (sheetEnd version n m) r ⌝ }
+{
+    let size = queue_size(version);
+    if size == 0 {
+        return refused(2, 0);
+    }
+    if !counts_fit(n, m) {
+        return refused(3, 0);
+    }
+    if !handed(n, m, tag, time, source, sink, produced, consumed, delay) {
+        return refused(3, 0);
+    }
+    let bad = first_bad(n, m, source, sink, produced, consumed, delay);
+    if bad < m {
+        return refused(5, bad as u32);
+    }
+    let length = 20 + 4 * n + size * m;
+    if room < length {
+        return refused(11, 0);
+    }
+    Written {
+        number: 0,
+        place: 0,
+        length,
+    }
+}
+
+// Writes a sheet over the front of out: the first of refusals 2, 3, 5 and 11 that applies, or the sheet's length.
+pub fn write(
+    version: u16,
+    n: usize,
+    m: usize,
+    target: u32,
+    tag: &[u16],
+    time: &[u16],
+    source: &[u16],
+    sink: &[u16],
+    produced: &[u16],
+    consumed: &[u16],
+    delay: &[u16],
+    out: &mut [u8],
+) -> Written
+    ensures { λ r. ⌜ Writes (sheetFrom version n m target (now (tag .entry)) (now (time .entry)) (now (source .entry)) (now (sink .entry)) (now (produced .entry)) (now (consumed .entry)) (now (delay .entry))) (now (out .entry)) (now (out .exit)) r ⌝ }
+{
+    let answer = judge(
+        version,
+        n,
+        m,
+        tag,
+        time,
+        source,
+        sink,
+        produced,
+        consumed,
+        delay,
+        out.len(),
+    );
+    if answer.number != 0 {
+        return answer;
+    }
+    put_header(out, version, n, m, target);
+    put_stations(out, n, tag, time);
+    put_queues(out, 20 + 4 * n, m, source, sink, produced, consumed, delay);
+    answer
 }

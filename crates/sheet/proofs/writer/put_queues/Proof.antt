@@ -90,12 +90,15 @@ loop-again : tie.Need-loop-again Inv-loop μ-loop
 unfolding queueBytes
 loop-again c =
     let l = c .before .before .before .before .before .before .before .before .before .before .loop in
-    let a = c .before .before .before .before .before .before .before .before .before .before .before .before .before .before .before .before .before .args in
-    (search needs,
-    (search needs,
-    wrote-part 10 (queueBytes (a .source .now) (a .sink .now) (a .produced .now) (a .consumed .now) (a .delay .now)) (l .e)
-    (length-queue (a .source .now) (a .sink .now) (a .produced .now) (a .consumed .now) (a .delay .now) (l .e)) (l .inv .1 .1) refl
-    (c .before .before .put-queue .ensures)))
+    let a = c .before .before .before .before .before .before .before .before .before .before .before .before .before .before .before .before .before .args in (
+      search needs,
+      (
+        search needs,
+        wrote-part 10 (queueBytes (a .source .now) (a .sink .now) (a .produced .now) (a .consumed .now) (a .delay .now)) (l .e)
+            (length-queue (a .source .now) (a .sink .now) (a .produced .now) (a .consumed .now) (a .delay .now) (l .e)) (l .inv .1 .1) refl
+            (c .before .before .put-queue .ensures),
+      ),
+    )
 
 -- src/writer.rt:105:1
 same-length : tie.Need-same-length Inv-loop μ-loop

@@ -66,11 +66,14 @@ loop-again : tie.Need-loop-again Inv-loop μ-loop
 unfolding stationBytes
 loop-again c =
     let l = c .before .before .before .before .before .before .before .loop in
-    let a = c .before .before .before .before .before .before .before .before .before .before .before .args in
-    (search needs,
-    (search needs,
-    wrote-part 4 (stationBytes (a .tag .now) (a .time .now)) (l .i) (length-station (a .tag .now) (a .time .now) (l .i)) (l .inv .1 .1) refl
-    (c .before .before .put-station .ensures)))
+    let a = c .before .before .before .before .before .before .before .before .before .before .before .args in (
+      search needs,
+      (
+        search needs,
+        wrote-part 4 (stationBytes (a .tag .now) (a .time .now)) (l .i) (length-station (a .tag .now) (a .time .now) (l .i)) (l .inv .1 .1) refl
+            (c .before .before .put-station .ensures),
+      ),
+    )
 
 -- src/writer.rt:77:1
 same-length : tie.Need-same-length Inv-loop μ-loop
