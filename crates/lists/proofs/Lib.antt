@@ -1,5 +1,6 @@
 pub mod Order
 pub mod FrontLaws
+pub mod PartLaws
 pub mod JoinedLaws
 pub mod PutLaws
 pub mod TestLaws

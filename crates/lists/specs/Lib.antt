@@ -1,4 +1,5 @@
 pub mod Front
+pub mod Part
 pub mod Put
 pub mod Joined
 pub mod Lowest

@@ -3,6 +3,10 @@ use Prim.Native.Nat.{ℕ, _+_, _*_, _/_, _%_, _≤_, _<_}
 use mathlib.Core.List.{List, [], _∷_, _++_}
 use Rattle.lists.specs.Front.{at}
 
+-- every entry is a byte
+abbrev pub Bytes : List ℕ → Type 0
+Bytes s = (i : ℕ) → at s i < 256
+
 -- the number in the two bytes at a place, and in the four
 abbrev pub u16le : List ℕ → ℕ → ℕ
 u16le s place = at s place + 256 * at s (place + 1)

@@ -36,7 +36,7 @@ part-same p q = ap₂ _*_ p q
 
 -- a column of station fields, and one of queue fields, lies within the sheet
 module _ (s : List ℕ) (ok : Passes s) where
-  ends : length s ≡ 20 + 4 * stations s + 10 * queues s
+  pub ends : length s ≡ 20 + 4 * stations s + 10 * queues s
   ends = omega (arith, part-same {m = queues s} (ap queueSize (ok .known)) refl, ok .laid .ends)
 
   pub stations-apart : {n : ℕ} (from : ℕ) → n ≡ stations s → from ≤ 22 → Apart from 4 n (length s) 32

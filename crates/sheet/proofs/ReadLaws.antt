@@ -11,7 +11,7 @@ use Rattle.refusals.proofs.FirstLaws.{here, passed, none, extend, append, all-p
 use Rattle.sheet.specs.declared.Sheet.{Sheet}
 use Rattle.sheet.specs.declared.Reading.{Reading}
 use Rattle.sheet.specs.Limits.{SheetQueueFits}
-use Rattle.sheet.specs.Format.{sheetOf}
+use Rattle.sheet.specs.Format.{version, sheetOf}
 use Rattle.sheet.specs.Read.{HeaderFits, Laid, Passes, headerRows, fieldRow, readRows, blank, Reads}
 
 header-stable : (s : List ℕ) → ((HeaderFits s → ⊥) → ⊥) → HeaderFits s
@@ -34,15 +34,19 @@ laid-stable s h =
       ends = eq-stable (λ n. h (λ f. n (f .ends)));
     }
 
--- where none of refusals 1 to 4 is given, the header and the layout are right
+right : (s : List ℕ) → ((version s ≡ 1 → ⊥) → ⊥) → ((HeaderFits s → ⊥) → ⊥) → ((Laid s → ⊥) → ⊥) → Passes s
+right s v h l = record { known = eq-stable v; header = header-stable s h; laid = laid-stable s l }
+
+-- where none of refusals 1 to 4 is given, and where none of 1 to 5 is, the header and the layout are right
 pub passes : (s : List ℕ) {k p : ℕ} → First (headerRows s) k p → k ≡ 0 → Passes s
 passes s f e =
     let all = all-passed f e in
-    record {
-      known = eq-stable (all 1 (omega arith) 0);
-      header = header-stable s (all 2 (omega arith) 0);
-      laid = laid-stable s (all 3 (omega arith) 0);
-    }
+    right s (all 1 (omega arith) 0) (all 2 (omega arith) 0) (all 3 (omega arith) 0)
+
+pub passes-read : (s : List ℕ) {k p : ℕ} → First (readRows s) k p → k ≡ 0 → Passes s
+passes-read s f e =
+    let all = all-passed f e in
+    right s (all 1 (omega arith) 0) (all 2 (omega arith) 0) (all 3 (omega arith) 0)
 
 -- a refusal by the header is the first
 pub refused-header : (s : List ℕ) {k p : ℕ} → First (headerRows s) k p → (k ≡ 0 → ⊥) → First (readRows s) k p

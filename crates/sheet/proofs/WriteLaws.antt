@@ -12,7 +12,7 @@ use Rattle.lists.proofs.PutLaws.{wrote, wrote-more, put-front}
 use Rattle.refusals.specs.Table.{counts}
 use Rattle.refusals.specs.Table.{version as wrong-version}
 use Rattle.refusals.specs.Table.{room as too-short}
-use Rattle.refusals.specs.First.{Row, row, First}
+use Rattle.refusals.specs.First.{Row, row, Passed, First}
 use Rattle.refusals.proofs.FirstLaws.{here, here-now, passed, none, all-passed}
 use Rattle.sheet.specs.declared.Sheet.{Sheet}
 use Rattle.sheet.specs.declared.Written.{Written}
@@ -30,25 +30,26 @@ module _ (f : Sheet) (room : ℕ) where
     pub refused-counts : (CountsFit (f .n) (f .m) × SheetHanded f → ⊥) → First (writeRows f room) 3 0
     refused-counts n = passed (λ p h. h one) (here-now counts n)
 
-    module _ (fits : CountsFit (f .n) (f .m)) (handed : SheetHanded f) {bad : ℕ} (lowest : LowestFailing (SheetQueueFits f) (f .m) bad) where
-      pub refused-queue : bad < f .m → First (writeRows f room) 5 bad
-      refused-queue l =
+    module _ (fits : CountsFit (f .n) (f .m)) (handed : SheetHanded f) where
+      pub refused-queue : {bad : ℕ} → LowestFailing (SheetQueueFits f) (f .m) bad → bad < f .m → First (writeRows f room) 5 bad
+      refused-queue lowest l =
           passed (λ p h. h one)
           (passed (λ p h. h (fits, handed))
           (here {r = fieldRow f} (record { applies = (l, lowest .fails l); none-below = λ i b a. a .1 (lowest .below i b) })))
 
-      module _ (good : f .m ≤ bad) where
+      module _ (clear : Passed (fieldRow f)) where
         to-room : {k p : ℕ} → First (row too-short (room < sheetEnd (f .version) (f .n) (f .m)) ∷ []) k p → First (writeRows f room) k p
-        to-room r =
-            passed (λ p h. h one)
-            (passed (λ p h. h (fits, handed))
-            (passed {r = fieldRow f} (λ e a. a .1 (lowest .below e (omega (arith, a .0)))) r))
+        to-room r = passed (λ p h. h one) (passed (λ p h. h (fits, handed)) (passed clear r))
 
         pub refused-room : room < sheetEnd (f .version) (f .n) (f .m) → First (writeRows f room) 11 0
         refused-room l = to-room (here-now too-short l)
 
         pub free-to-write : sheetEnd (f .version) (f .n) (f .m) ≤ room → First (writeRows f room) 0 0
         free-to-write l = to-room (passed (λ p h. omega arith) none)
+
+-- no queue is bad
+pub clear : (f : Sheet) {bad : ℕ} → LowestFailing (SheetQueueFits f) (f .m) bad → f .m ≤ bad → Passed (fieldRow f)
+clear f lowest good e a = a .1 (lowest .below e (omega (arith, a .0)))
 
 pub judges-refused : {rows : List Row} {needed : ℕ} {r : Written} (k p : ℕ) → First rows k p → (k ≡ 0 → ⊥) → r ≡ record { number = k; place = p; length = 0 } → Judges rows needed r
 judges-refused k p f n e = rw e (record { verdict = f; accepted = λ z. absurd (n z); refused = λ z. refl })

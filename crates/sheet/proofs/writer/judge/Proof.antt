@@ -7,7 +7,7 @@ use Rattle.sheet.specs.Limits.{CountsFit}
 use Rattle.sheet.specs.Format.{queueSize}
 use Rattle.sheet.specs.Write.{sheetFrom, SheetHanded}
 use Rattle.sheet.proofs.FormatLaws.{known, unknown, part-same}
-use Rattle.sheet.proofs.WriteLaws.{refused-version, refused-counts, refused-queue, refused-room, free-to-write, judges-refused}
+use Rattle.sheet.proofs.WriteLaws.{refused-version, refused-counts, refused-queue, refused-room, clear, free-to-write, judges-refused}
 use borrow.Author.Needs.{needs}
 use Rattle.sheet.proofs.writer.judge.Statement.{statement}
 use Rattle.sheet.proofs.writer.judge.Tie as tie
@@ -144,7 +144,7 @@ returns-5 c =
     let k = h .before .before .before in
     let q = k .before .before in
     judges-refused _ _
-    (refused-room (sheet (begin q)) (begin q .args .room) (one (k .before)) (fits (h .before .before)) (given h) (b .first-bad .ensures) (z .if4 .left) (omega (arith, part-same {m = begin q .args .m} (q .queue-size .ensures) refl)))
+    (refused-room (sheet (begin q)) (begin q .args .room) (one (k .before)) (fits (h .before .before)) (given h) (clear (sheet (begin q)) (b .first-bad .ensures) (z .if4 .left)) (omega (arith, part-same {m = begin q .args .m} (q .queue-size .ensures) refl)))
     (λ e. omega arith) (c .refused5 .ensures)
 
 -- src/writer.rt:142:1
@@ -156,7 +156,7 @@ returns-6 c =
     let k = h .before .before .before in
     let q = k .before .before in
     record {
-      verdict = free-to-write (sheet (begin q)) (begin q .args .room) (one (k .before)) (fits (h .before .before)) (given h) (b .first-bad .ensures) (z .if4 .left) (omega (arith, part-same {m = begin q .args .m} (q .queue-size .ensures) refl));
+      verdict = free-to-write (sheet (begin q)) (begin q .args .room) (one (k .before)) (fits (h .before .before)) (given h) (clear (sheet (begin q)) (b .first-bad .ensures) (z .if4 .left)) (omega (arith, part-same {m = begin q .args .m} (q .queue-size .ensures) refl));
       accepted = λ e. omega (arith, part-same {m = begin q .args .m} (q .queue-size .ensures) refl);
       refused = λ n. absurd (n refl);
     }

@@ -1,0 +1,26 @@
+-- The 48 bytes that document 01 prints, and the sheet that they hold.
+use Prim.Native.Nat.{ℕ}
+use mathlib.Core.List.{List, [], _∷_, _++_}
+use Rattle.sheet.specs.declared.Sheet.{Sheet}
+
+abbrev pub sampleBytes : List ℕ
+sampleBytes =
+    (0x01 ∷ 0x00 ∷ 0x02 ∷ 0x00 ∷ 0x02 ∷ 0x00 ∷ 0x00 ∷ 0x00 ∷ 0x14 ∷ 0x00 ∷ 0x00 ∷ 0x00 ∷ 0x1C ∷ 0x00 ∷ 0x00 ∷ 0x00 ∷ [])
+    ++ (0x03 ∷ 0x00 ∷ 0x00 ∷ 0x00 ∷ 0x01 ∷ 0x00 ∷ 0x03 ∷ 0x00 ∷ 0x02 ∷ 0x00 ∷ 0x02 ∷ 0x00 ∷ 0x00 ∷ 0x00 ∷ 0x01 ∷ 0x00 ∷ [])
+    ++ (0x01 ∷ 0x00 ∷ 0x02 ∷ 0x00 ∷ 0x00 ∷ 0x00 ∷ 0x01 ∷ 0x00 ∷ 0x00 ∷ 0x00 ∷ 0x02 ∷ 0x00 ∷ 0x01 ∷ 0x00 ∷ 0x04 ∷ 0x00 ∷ [])
+
+-- two stations with tags 1 and 2 and times 3 and 2; a queue from each to the other
+abbrev pub sampleSheet : Sheet
+sampleSheet = record {
+  version = 1;
+  n = 2;
+  m = 2;
+  target = 3;
+  tag = 1 ∷ 2 ∷ [];
+  time = 3 ∷ 2 ∷ [];
+  source = 0 ∷ 1 ∷ [];
+  sink = 1 ∷ 0 ∷ [];
+  produced = 1 ∷ 2 ∷ [];
+  consumed = 2 ∷ 1 ∷ [];
+  delay = 0 ∷ 4 ∷ [];
+}
