@@ -10,7 +10,7 @@ use Rattle.refusals.specs.First.{First}
 use Rattle.refusals.proofs.FirstLaws.{here, passed, none, extend, append, all-passed}
 use Rattle.sheet.specs.declared.Sheet.{Sheet}
 use Rattle.sheet.specs.declared.Reading.{Reading}
-use Rattle.sheet.specs.Limits.{SheetQueueFits}
+use Rattle.sheet.specs.Limits.{CountsFit, SheetQueueFits}
 use Rattle.sheet.specs.Format.{version, sheetOf}
 use Rattle.sheet.specs.Read.{HeaderFits, Laid, Passes, headerRows, fieldRow, readRows, blank, Reads}
 
@@ -74,3 +74,8 @@ module _ (s : List ℕ) (sheet : Sheet) (is : sheet ≡ sheetOf s) where
 -- a refusal is read
 pub reads-refused : (s : List ℕ) {r : Reading} (k p : ℕ) → First (readRows s) k p → (k ≡ 0 → ⊥) → r ≡ record { number = k; place = p; sheet = blank } → Reads s r
 reads-refused s k p f n e = rw e (record { verdict = f; accepted = λ z. absurd (n z); refused = λ z. refl })
+
+-- an accepted sheet is within the limits of n and m
+pub accepted-counts : (s : List ℕ) (r : Reading) → Reads s r → r .number ≡ 0 → CountsFit (r .sheet .n) (r .sheet .m)
+unfolding sheetOf
+accepted-counts s r q e = rw (q .accepted e) (passes-read s (q .verdict) e .header .counts)
