@@ -3,78 +3,55 @@ use lib.ListN.{length-take}
 use borrow.Author.Needs.{needs}
 use Rattle.bench.proofs.answer_body.Statement.{statement}
 use Rattle.bench.proofs.answer_body.Tie as tie
-use Rattle.bench.proofs.answer_body.Reads as reads
-use Rattle.bench.proofs.answer_body.Lts as lts
-use Rattle.bench.proofs.answer.Reads as answer-reads
-use Rattle.bench.proofs.skip.Reads as skip-reads
-use Rattle.io.proofs.read_full.Reads as read-full-reads
-use Rattle.print.proofs.text.Reads as text-reads
 
--- src/main.rt:46:21
 slice-aggregate-text : tie.Need-slice-aggregate-text
 slice-aggregate-text c = search needs
 
--- src/main.rt:46:9
 text-requires : tie.Need-text-requires
 text-requires c κs = search needs
 
--- src/main.rt:47:9
 skip-requires : tie.Need-skip-requires
 skip-requires c κs = search needs
 
--- src/main.rt:47:9
 same-length : tie.Need-same-length
 same-length c = search needs
 
--- src/main.rt:47:9
 returns : tie.Need-returns
 returns c = search needs
 
--- src/main.rt:49:43
 slice-relend-prefix-read-full : tie.Need-slice-relend-prefix-read-full
 slice-relend-prefix-read-full c = search needs
 
--- src/main.rt:49:43
 slice-aggregate-read-full : tie.Need-slice-aggregate-read-full
 slice-aggregate-read-full c = simp length-take (omega arith)
 
--- src/main.rt:49:9
 read-full-requires : tie.Need-read-full-requires
 read-full-requires c κs = search needs
 
--- src/main.rt:51:21
 slice-aggregate-text-2 : tie.Need-slice-aggregate-text-2
 slice-aggregate-text-2 c = search needs
 
--- src/main.rt:51:9
 text-requires-2 : tie.Need-text-requires-2
 text-requires-2 c κs = search needs
 
--- src/main.rt:52:9
 same-length-2 : tie.Need-same-length-2
 same-length-2 c = search needs
 
--- src/main.rt:52:9
 returns-2 : tie.Need-returns-2
 returns-2 c = search needs
 
--- src/main.rt:54:18
 slice-reshare-prefix-answer : tie.Need-slice-reshare-prefix-answer
 slice-reshare-prefix-answer c = search needs
 
--- src/main.rt:54:18
 slice-aggregate-answer : tie.Need-slice-aggregate-answer
 slice-aggregate-answer c = simp length-take (omega arith)
 
--- src/main.rt:54:5
 answer-requires : tie.Need-answer-requires
 answer-requires c κs = search needs
 
--- src/main.rt:42:1
 same-length-3 : tie.Need-same-length-3
 same-length-3 c = search needs
 
--- src/main.rt:42:1
 returns-3 : tie.Need-returns-3
 returns-3 c = search needs
 

@@ -1,16 +1,13 @@
-use borrow.Author.Needs.{needs}
-use Rattle.lists.proofs.FrontLaws.{front-none, front-more}
 use Prim.Native.Nat.{_≤_, _-_}
 use mathlib.Core.Path.{_≡_}
-use Rattle.lists.specs.Front.{front}
-use Rattle.little.specs.Little.{columnAt}
 use native.Mathlib.Omega.{arith}
 use lib.ListN.{length, length-set}
+use borrow.Author.Needs.{needs}
+use Rattle.lists.proofs.FrontLaws.{front-none, front-more}
+use Rattle.lists.specs.Front.{front}
+use Rattle.little.specs.Little.{columnAt}
 use Rattle.little.proofs.column.Statement.{statement}
 use Rattle.little.proofs.column.Tie as tie
-use Rattle.little.proofs.column.Reads as reads
-use Rattle.little.proofs.column.Lts as lts
-use Rattle.little.proofs.u16_at.Reads as u16-at-reads
 
 abbrev Inv-loop : tie.InvT-loop
 Inv-loop s base step count out₀ i₀ out i = (i ≤ count) × ((length out ≡ length out₀) × (out ≡ front i (columnAt s base step) out₀))
@@ -18,39 +15,30 @@ Inv-loop s base step count out₀ i₀ out i = (i ≤ count) × ((length out ≡
 abbrev μ-loop : tie.MeasureT-loop
 μ-loop s base step count out₀ i₀ out i = count - i
 
--- src/lib.rt:38:5
 loop-holds : tie.Need-loop-holds Inv-loop μ-loop
 loop-holds c = (search needs, (search needs, front-none _ _))
 
--- src/lib.rt:39:35
 mul-u16-at : tie.Need-mul-u16-at Inv-loop μ-loop
 mul-u16-at c = omega (arith, c .before .before .before .before .pre .within (c .before .loop .i) (omega arith))
 
--- src/lib.rt:39:28
 add-u16-at : tie.Need-add-u16-at Inv-loop μ-loop
 add-u16-at c = omega (arith, c .before .before .before .before .pre .within (c .before .loop .i) (omega arith))
 
--- src/lib.rt:39:18
 u16-at-requires : tie.Need-u16-at-requires Inv-loop μ-loop
 u16-at-requires c κs = c .before .before .before .before .pre .within (c .before .loop .i) (omega arith)
 
--- src/lib.rt:39:9
 mul-out : tie.Need-mul-out Inv-loop μ-loop
 mul-out c = search needs
 
--- src/lib.rt:39:9
 slice-write-out : tie.Need-slice-write-out Inv-loop μ-loop
 slice-write-out c = search needs
 
--- src/lib.rt:38:9
 add-i : tie.Need-add-i Inv-loop μ-loop
 add-i c = search needs
 
--- src/lib.rt:38:5
 loop-less : tie.Need-loop-less Inv-loop μ-loop
 loop-less c = search needs
 
--- src/lib.rt:38:5
 loop-again : tie.Need-loop-again Inv-loop μ-loop
 loop-again c =
     let a = c .before .before .before .before .before .args in (
@@ -61,11 +49,9 @@ loop-again c =
       ),
     )
 
--- src/lib.rt:34:1
 same-length : tie.Need-same-length Inv-loop μ-loop
 same-length c = search needs
 
--- src/lib.rt:34:1
 returns : tie.Need-returns Inv-loop μ-loop
 returns c = let h : c .before .loop .i ≡ c .before .before .before .before .args .count = omega arith in cc
 

@@ -1,39 +1,29 @@
 use mathlib.Core.Path.{refl}
+use borrow.Author.Needs.{needs}
 use Rattle.lists.proofs.PutLaws.{wrote, wrote-more}
 use Rattle.little.specs.Little.{four}
 use Rattle.little.proofs.LittleLaws.{length-two}
-use borrow.Author.Needs.{needs}
 use Rattle.little.proofs.put_u32.Statement.{statement}
 use Rattle.little.proofs.put_u32.Tie as tie
-use Rattle.little.proofs.put_u32.Reads as reads
-use Rattle.little.proofs.put_u32.Lts as lts
-use Rattle.little.proofs.put_u16.Reads as put-u16-reads
 
--- src/lib.rt:55:22
 cast-put-u16 : tie.Need-cast-put-u16
 cast-put-u16 c = search needs
 
--- src/lib.rt:55:5
 put-u16-requires : tie.Need-put-u16-requires
 put-u16-requires c κs = search needs
 
--- src/lib.rt:56:18
 add-put-u16 : tie.Need-add-put-u16
 add-put-u16 c = search needs
 
--- src/lib.rt:56:26
 cast-put-u16-2 : tie.Need-cast-put-u16-2
 cast-put-u16-2 c = search needs
 
--- src/lib.rt:56:5
 put-u16-requires-2 : tie.Need-put-u16-requires-2
 put-u16-requires-2 c κs = search needs
 
--- src/lib.rt:51:1
 same-length : tie.Need-same-length
 same-length c = search needs
 
--- src/lib.rt:51:1
 returns : tie.Need-returns
 unfolding four
 returns c =

@@ -1,10 +1,7 @@
-use borrow.Author.Needs.{needs}
 use Prim.Native.Nat.{_≤_, _-_}
+use borrow.Author.Needs.{needs}
 use Rattle.bench.proofs.reading.queues.Statement.{statement}
 use Rattle.bench.proofs.reading.queues.Tie as tie
-use Rattle.bench.proofs.reading.queues.Reads as reads
-use Rattle.bench.proofs.reading.queues.Lts as lts
-use Rattle.bench.proofs.reading.queue.Reads as queue-reads
 
 abbrev Inv-loop : tie.InvT-loop
 Inv-loop m source sink produced consumed delay e₀ e = e ≤ m
@@ -12,67 +9,51 @@ Inv-loop m source sink produced consumed delay e₀ e = e ≤ m
 abbrev μ-loop : tie.MeasureT-loop
 μ-loop m source sink produced consumed delay e₀ e = m - e
 
--- src/reading.rt:39:5
 loop-holds : tie.Need-loop-holds Inv-loop μ-loop
 loop-holds c = search needs
 
--- src/reading.rt:40:18
 mul-queue : tie.Need-mul-queue Inv-loop μ-loop
 mul-queue c = search needs
 
--- src/reading.rt:40:18
 element-copy-out-queue : tie.Need-element-copy-out-queue Inv-loop μ-loop
 element-copy-out-queue c = search needs
 
--- src/reading.rt:40:29
 mul-queue-2 : tie.Need-mul-queue-2 Inv-loop μ-loop
 mul-queue-2 c = search needs
 
--- src/reading.rt:40:29
 element-copy-out-queue-2 : tie.Need-element-copy-out-queue-2 Inv-loop μ-loop
 element-copy-out-queue-2 c = search needs
 
--- src/reading.rt:40:38
 mul-queue-3 : tie.Need-mul-queue-3 Inv-loop μ-loop
 mul-queue-3 c = search needs
 
--- src/reading.rt:40:38
 element-copy-out-queue-3 : tie.Need-element-copy-out-queue-3 Inv-loop μ-loop
 element-copy-out-queue-3 c = search needs
 
--- src/reading.rt:40:51
 mul-queue-4 : tie.Need-mul-queue-4 Inv-loop μ-loop
 mul-queue-4 c = search needs
 
--- src/reading.rt:40:51
 element-copy-out-queue-4 : tie.Need-element-copy-out-queue-4 Inv-loop μ-loop
 element-copy-out-queue-4 c = search needs
 
--- src/reading.rt:40:64
 mul-queue-5 : tie.Need-mul-queue-5 Inv-loop μ-loop
 mul-queue-5 c = search needs
 
--- src/reading.rt:40:64
 element-copy-out-queue-5 : tie.Need-element-copy-out-queue-5 Inv-loop μ-loop
 element-copy-out-queue-5 c = search needs
 
--- src/reading.rt:40:9
 queue-requires : tie.Need-queue-requires Inv-loop μ-loop
 queue-requires c κs = search needs
 
--- src/reading.rt:39:9
 add-e : tie.Need-add-e Inv-loop μ-loop
 add-e c = search needs
 
--- src/reading.rt:39:5
 loop-less : tie.Need-loop-less Inv-loop μ-loop
 loop-less c = search needs
 
--- src/reading.rt:39:5
 loop-again : tie.Need-loop-again Inv-loop μ-loop
 loop-again c = search needs
 
--- src/reading.rt:29:1
 returns : tie.Need-returns Inv-loop μ-loop
 returns c = search needs
 

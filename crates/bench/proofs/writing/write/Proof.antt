@@ -4,93 +4,67 @@ use lib.ListN.{length}
 use borrow.Author.Needs.{needs}
 use Rattle.bench.proofs.writing.write.Statement.{statement}
 use Rattle.bench.proofs.writing.write.Tie as tie
-use Rattle.bench.proofs.writing.write.Reads as reads
-use Rattle.bench.proofs.writing.write.Lts as lts
-use Rattle.bench.proofs.writing.queue_column.Reads as queue-column-reads
-use Rattle.bench.proofs.writing.station_column.Reads as station-column-reads
-use Rattle.bench.proofs.writing.write_columns.Reads as write-columns-reads
 
--- src/writing.rt:73:21
 mul-from : tie.Need-mul-from
 mul-from c = search needs
 
--- src/writing.rt:73:16
 add-from : tie.Need-add-from
 add-from c = search needs
 
--- src/writing.rt:74:15
 station-column-requires : tie.Need-station-column-requires
 station-column-requires c κs = search needs
 
--- src/writing.rt:75:16
 station-column-requires-2 : tie.Need-station-column-requires-2
 station-column-requires-2 c κs = search needs
 
--- src/writing.rt:76:18
 queue-column-requires : tie.Need-queue-column-requires
 queue-column-requires c κs = search needs
 
--- src/writing.rt:77:35
 add-queue-column : tie.Need-add-queue-column
 add-queue-column c = search needs
 
--- src/writing.rt:77:16
 queue-column-requires-2 : tie.Need-queue-column-requires-2
 queue-column-requires-2 c κs = search needs
 
--- src/writing.rt:78:39
 add-queue-column-2 : tie.Need-add-queue-column-2
 add-queue-column-2 c = search needs
 
--- src/writing.rt:78:20
 queue-column-requires-3 : tie.Need-queue-column-requires-3
 queue-column-requires-3 c κs = search needs
 
--- src/writing.rt:79:39
 add-queue-column-3 : tie.Need-add-queue-column-3
 add-queue-column-3 c = search needs
 
--- src/writing.rt:79:20
 queue-column-requires-4 : tie.Need-queue-column-requires-4
 queue-column-requires-4 c κs = search needs
 
--- src/writing.rt:80:36
 add-queue-column-4 : tie.Need-add-queue-column-4
 add-queue-column-4 c = search needs
 
--- src/writing.rt:80:17
 queue-column-requires-5 : tie.Need-queue-column-requires-5
 queue-column-requires-5 c κs = search needs
 
--- src/writing.rt:85:9
 slice-aggregate-write-columns : tie.Need-slice-aggregate-write-columns
 slice-aggregate-write-columns c = search needs
 
--- src/writing.rt:86:9
 slice-aggregate-write-columns-2 : tie.Need-slice-aggregate-write-columns-2
 slice-aggregate-write-columns-2 c = search needs
 
--- src/writing.rt:87:9
 slice-aggregate-write-columns-3 : tie.Need-slice-aggregate-write-columns-3
 slice-aggregate-write-columns-3 c = search needs
 
--- src/writing.rt:88:9
 slice-aggregate-write-columns-4 : tie.Need-slice-aggregate-write-columns-4
 slice-aggregate-write-columns-4 c = search needs
 
--- src/writing.rt:89:9
 slice-aggregate-write-columns-5 : tie.Need-slice-aggregate-write-columns-5
 slice-aggregate-write-columns-5 c = search needs
 
--- src/writing.rt:90:9
 slice-aggregate-write-columns-6 : tie.Need-slice-aggregate-write-columns-6
 slice-aggregate-write-columns-6 c = search needs
 
--- src/writing.rt:91:9
 slice-aggregate-write-columns-7 : tie.Need-slice-aggregate-write-columns-7
 slice-aggregate-write-columns-7 c = search needs
 
--- src/writing.rt:81:5
 write-columns-requires : tie.Need-write-columns-requires
 write-columns-requires c κs =
     let h0 : length (c .before .before .before .before .before .before .before .before .before .before .before .before .before .before .station-column .result) ≡ 100 = search needs in
@@ -102,11 +76,9 @@ write-columns-requires c κs =
     let h6 : length (c .before .before .before .before .before .before .before .before .queue-column5 .result) ≡ 200 = search needs in
     omega (arith, c .before .before .before .before .before .before .before .before .before .before .before .before .before .before .before .before .before .pre)
 
--- src/writing.rt:70:1
 same-length : tie.Need-same-length
 same-length c = search needs
 
--- src/writing.rt:70:1
 returns : tie.Need-returns
 returns c = search needs
 

@@ -3,73 +3,52 @@ use lib.ListN.{length-take}
 use borrow.Author.Needs.{needs}
 use Rattle.bench.proofs.writing.write_columns.Statement.{statement}
 use Rattle.bench.proofs.writing.write_columns.Tie as tie
-use Rattle.bench.proofs.writing.write_columns.Reads as reads
-use Rattle.bench.proofs.writing.write_columns.Lts as lts
-use Rattle.little.proofs.u16_at.Reads as u16-at-reads
-use Rattle.little.proofs.u32_at.Reads as u32-at-reads
-use Rattle.sheet.proofs.write.Reads as write-reads
 
--- src/writing.rt:51:13
 u16-at-requires : tie.Need-u16-at-requires
 u16-at-requires c κs = search needs
 
--- src/writing.rt:51:13
 cast-n : tie.Need-cast-n
 cast-n c = search needs
 
--- src/writing.rt:52:13
 u16-at-requires-2 : tie.Need-u16-at-requires-2
 u16-at-requires-2 c κs = search needs
 
--- src/writing.rt:52:13
 cast-m : tie.Need-cast-m
 cast-m c = search needs
 
--- src/writing.rt:54:9
 u16-at-requires-3 : tie.Need-u16-at-requires-3
 u16-at-requires-3 c κs = search needs
 
--- src/writing.rt:57:9
 u32-at-requires : tie.Need-u32-at-requires
 u32-at-requires c κs = search needs
 
--- src/writing.rt:58:9
 slice-aggregate-write : tie.Need-slice-aggregate-write
 slice-aggregate-write c = simp length-take (omega arith)
 
--- src/writing.rt:59:9
 slice-aggregate-write-2 : tie.Need-slice-aggregate-write-2
 slice-aggregate-write-2 c = simp length-take (omega arith)
 
--- src/writing.rt:60:9
 slice-aggregate-write-3 : tie.Need-slice-aggregate-write-3
 slice-aggregate-write-3 c = simp length-take (omega arith)
 
--- src/writing.rt:61:9
 slice-aggregate-write-4 : tie.Need-slice-aggregate-write-4
 slice-aggregate-write-4 c = simp length-take (omega arith)
 
--- src/writing.rt:62:9
 slice-aggregate-write-5 : tie.Need-slice-aggregate-write-5
 slice-aggregate-write-5 c = simp length-take (omega arith)
 
--- src/writing.rt:63:9
 slice-aggregate-write-6 : tie.Need-slice-aggregate-write-6
 slice-aggregate-write-6 c = simp length-take (omega arith)
 
--- src/writing.rt:64:9
 slice-aggregate-write-7 : tie.Need-slice-aggregate-write-7
 slice-aggregate-write-7 c = simp length-take (omega arith)
 
--- src/writing.rt:53:5
 write-requires : tie.Need-write-requires
 write-requires c κs = search needs
 
--- src/writing.rt:36:1
 same-length : tie.Need-same-length
 same-length c = search needs
 
--- src/writing.rt:36:1
 returns : tie.Need-returns
 returns c = search needs
 

@@ -3,22 +3,16 @@ use native.Mathlib.Omega.{arith}
 use Rattle.lists.proofs.TestLaws.{tells-true, tells-false}
 use Rattle.sheet.proofs.limits.counts_fit.Statement.{statement}
 use Rattle.sheet.proofs.limits.counts_fit.Tie as tie
-use Rattle.sheet.proofs.limits.counts_fit.Reads as reads
-use Rattle.sheet.proofs.limits.counts_fit.Lts as lts
 
--- src/limits.rt:22:9
 returns : tie.Need-returns
 returns c = tells-false refl (λ f. omega arith)
 
--- src/limits.rt:25:9
 returns-2 : tie.Need-returns-2
 returns-2 c = tells-false refl (λ f. omega arith)
 
--- src/limits.rt:28:9
 returns-3 : tie.Need-returns-3
 returns-3 c = tells-false refl (λ f. omega arith)
 
--- src/limits.rt:18:1
 returns-4 : tie.Need-returns-4
 returns-4 c = tells-true refl (omega arith)
 

@@ -1,15 +1,11 @@
-use Rattle.sheet.proofs.FormatLaws.{size-none}
 use borrow.Author.Needs.{needs}
+use Rattle.sheet.proofs.FormatLaws.{size-none}
 use Rattle.sheet.proofs.limits.queue_size.Statement.{statement}
 use Rattle.sheet.proofs.limits.queue_size.Tie as tie
-use Rattle.sheet.proofs.limits.queue_size.Reads as reads
-use Rattle.sheet.proofs.limits.queue_size.Lts as lts
 
--- src/limits.rt:11:1
 returns : tie.Need-returns
 returns c = search needs
 
--- src/limits.rt:11:1
 returns-2 : tie.Need-returns-2
 returns-2 c = size-none (c .before .args .version) (c .match .rest .1)
 

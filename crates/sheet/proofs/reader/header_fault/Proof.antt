@@ -1,20 +1,14 @@
 use mathlib.Core.Path.{_≡_, ap, _∙_}
 use native.Mathlib.Omega.{arith}
 use borrow.Author.Tests.{not-true, not-false}
+use borrow.Author.Needs.{needs}
 use Rattle.refusals.specs.Table.{short, counts, layout}
 use Rattle.refusals.specs.Table.{version as wrong-version}
 use Rattle.refusals.proofs.FirstLaws.{here-now, passed, none}
 use Rattle.sheet.specs.Format.{version, queueSize}
 use Rattle.sheet.proofs.FormatLaws.{known, unknown}
-use borrow.Author.Needs.{needs}
 use Rattle.sheet.proofs.reader.header_fault.Statement.{statement}
 use Rattle.sheet.proofs.reader.header_fault.Tie as tie
-use Rattle.sheet.proofs.reader.header_fault.Reads as reads
-use Rattle.sheet.proofs.reader.header_fault.Lts as lts
-use Rattle.little.proofs.u16_at.Reads as u16-at-reads
-use Rattle.sheet.proofs.limits.queue_size.Reads as queue-size-reads
-use Rattle.sheet.proofs.reader.header_fits.Reads as header-fits-reads
-use Rattle.sheet.proofs.reader.laid.Reads as laid-reads
 
 -- the version is known, and its record size is at hand
 one : (c : tie.Else2) → version (c .before .before .before .before .before .args .s .now) ≡ 1
@@ -23,41 +17,33 @@ one c = known (c .before .before .u16-at .ensures) (c .before .queue-size .ensur
 sized : (c : tie.Else2) → c .before .queue-size .result ≡ queueSize (version (c .before .before .before .before .before .args .s .now))
 sized c = c .before .queue-size .ensures ∙ ap queueSize (c .before .before .u16-at .ensures)
 
--- src/reader.rt:61:9
 returns : tie.Need-returns
 returns c = here-now short (c .if1 .taken)
 
--- src/reader.rt:63:27
 u16-at-requires : tie.Need-u16-at-requires
 u16-at-requires c κs = search needs
 
--- src/reader.rt:63:9
 queue-size-requires : tie.Need-queue-size-requires
 queue-size-requires c κs = search needs
 
--- src/reader.rt:65:9
 returns-2 : tie.Need-returns-2
 returns-2 c =
     passed (λ p h. omega arith)
     (here-now wrong-version (unknown (c .before .before .u16-at .ensures) (c .before .queue-size .ensures) (c .if2 .taken)))
 
--- src/reader.rt:67:9
 header-fits-requires : tie.Need-header-fits-requires
 header-fits-requires c κs = search needs
 
--- src/reader.rt:68:9
 returns-3 : tie.Need-returns-3
 returns-3 c =
     passed (λ p h. omega arith)
     (passed (λ p h. h (one (c .before .before)))
     (here-now counts (c .before .header-fits .ensures .fails (not-true _ (c .if3 .taken)))))
 
--- src/reader.rt:70:9
 laid-requires : tie.Need-laid-requires
 laid-requires c κs =
     (search needs, (sized (c .before .before), omega (arith, sized (c .before .before), ap queueSize (one (c .before .before)))))
 
--- src/reader.rt:71:9
 returns-4 : tie.Need-returns-4
 returns-4 c =
     passed (λ p h. omega arith)
@@ -65,7 +51,6 @@ returns-4 c =
     (passed (λ p h. h (c .before .before .before .header-fits .ensures .holds (not-false _ (c .before .before .if3 .left))))
     (here-now layout (c .before .laid .ensures .fails (not-true _ (c .if4 .taken))))))
 
--- src/reader.rt:57:1
 returns-5 : tie.Need-returns-5
 returns-5 c =
     passed (λ p h. omega arith)

@@ -1,48 +1,35 @@
 use mathlib.Core.Path.{refl}
 use native.Mathlib.Omega.{arith}
 use borrow.Author.Tests.{not-true, not-false}
-use Rattle.lists.proofs.TestLaws.{tells-true, tells-false}
 use borrow.Author.Needs.{needs}
+use Rattle.lists.proofs.TestLaws.{tells-true, tells-false}
 use Rattle.sheet.proofs.reader.header_fits.Statement.{statement}
 use Rattle.sheet.proofs.reader.header_fits.Tie as tie
-use Rattle.sheet.proofs.reader.header_fits.Reads as reads
-use Rattle.sheet.proofs.reader.header_fits.Lts as lts
-use Rattle.little.proofs.u16_at.Reads as u16-at-reads
-use Rattle.sheet.proofs.limits.counts_fit.Reads as counts-fit-reads
 
--- src/reader.rt:23:13
 u16-at-requires : tie.Need-u16-at-requires
 u16-at-requires c κs = search needs
 
--- src/reader.rt:23:13
 cast-n : tie.Need-cast-n
 cast-n c = search needs
 
--- src/reader.rt:24:13
 u16-at-requires-2 : tie.Need-u16-at-requires-2
 u16-at-requires-2 c κs = search needs
 
--- src/reader.rt:24:13
 cast-m : tie.Need-cast-m
 cast-m c = search needs
 
--- src/reader.rt:25:9
 counts-fit-requires : tie.Need-counts-fit-requires
 counts-fit-requires c κs = search needs
 
--- src/reader.rt:26:9
 returns : tie.Need-returns
 returns c = tells-false refl (λ f. c .before .counts-fit .ensures .fails (not-true _ (c .if1 .taken)) (omega arith))
 
--- src/reader.rt:28:8
 u16-at-requires-3 : tie.Need-u16-at-requires-3
 u16-at-requires-3 c κs = search needs
 
--- src/reader.rt:29:9
 returns-2 : tie.Need-returns-2
 returns-2 c = tells-false refl (λ f. omega arith)
 
--- src/reader.rt:19:1
 returns-3 : tie.Need-returns-3
 returns-3 c =
     let d = c .before .before in

@@ -1,81 +1,60 @@
-use native.Mathlib.Nat.{mul-le-mul-right}
-use Rattle.sheet.proofs.FormatLaws.{part-same}
 use mathlib.Core.Path.{refl}
+use native.Mathlib.Nat.{mul-le-mul-right}
 use native.Mathlib.Omega.{arith}
-use Rattle.lists.proofs.TestLaws.{tells-true, tells-false}
 use borrow.Author.Needs.{needs}
+use Rattle.lists.proofs.TestLaws.{tells-true, tells-false}
+use Rattle.sheet.proofs.FormatLaws.{part-same}
 use Rattle.sheet.proofs.reader.laid.Statement.{statement}
 use Rattle.sheet.proofs.reader.laid.Tie as tie
-use Rattle.sheet.proofs.reader.laid.Reads as reads
-use Rattle.sheet.proofs.reader.laid.Lts as lts
-use Rattle.little.proofs.u16_at.Reads as u16-at-reads
-use Rattle.little.proofs.u32_at.Reads as u32-at-reads
 
--- src/reader.rt:42:13
 u16-at-requires : tie.Need-u16-at-requires
 u16-at-requires c κs = search needs
 
--- src/reader.rt:42:13
 cast-n : tie.Need-cast-n
 cast-n c = search needs
 
--- src/reader.rt:43:13
 u16-at-requires-2 : tie.Need-u16-at-requires-2
 u16-at-requires-2 c κs = search needs
 
--- src/reader.rt:43:13
 cast-m : tie.Need-cast-m
 cast-m c = search needs
 
--- src/reader.rt:44:8
 u32-at-requires : tie.Need-u32-at-requires
 u32-at-requires c κs = search needs
 
--- src/reader.rt:45:9
 returns : tie.Need-returns
 returns c = tells-false refl (λ f. omega arith)
 
--- src/reader.rt:47:8
 u32-at-requires-2 : tie.Need-u32-at-requires-2
 u32-at-requires-2 c κs = search needs
 
--- src/reader.rt:47:8
 cast-if2 : tie.Need-cast-if2
 cast-if2 c = search needs
 
--- src/reader.rt:47:47
 mul-if2 : tie.Need-mul-if2
 mul-if2 c = search needs
 
--- src/reader.rt:47:42
 add-if2 : tie.Need-add-if2
 add-if2 c = search needs
 
--- src/reader.rt:48:9
 returns-2 : tie.Need-returns-2
 returns-2 c = tells-false refl (λ f. omega arith)
 
--- src/reader.rt:50:24
 mul-if3 : tie.Need-mul-if3
 mul-if3 c = search needs
 
--- src/reader.rt:50:19
 add-if3 : tie.Need-add-if3
 add-if3 c = search needs
 
--- src/reader.rt:50:32
 mul-if3-2 : tie.Need-mul-if3-2
 mul-if3-2 c = omega (arith, mul-le-mul-right (c .before .before .before .before .u16-at2 .result) (c .before .before .before .before .before .before .before .pre .1 .1))
 
--- src/reader.rt:50:19
 add-if3-2 : tie.Need-add-if3-2
 add-if3-2 c = omega (arith, mul-le-mul-right (c .before .before .before .before .u16-at2 .result) (c .before .before .before .before .before .before .before .pre .1 .1))
 
--- src/reader.rt:51:9
 returns-3 : tie.Need-returns-3
 returns-3 c = tells-false refl (λ f. omega (arith, part-same (c .before .before .before .before .before .before .before .before .pre .1 .0) (c .before .before .before .before .before .u16-at2 .ensures)))
 
--- src/reader.rt:38:1
 returns-4 : tie.Need-returns-4
 returns-4 c = tells-true refl (omega (arith, part-same (c .before .before .before .before .before .before .before .before .pre .1 .0) (c .before .before .before .before .before .u16-at2 .ensures)))
 

@@ -1,52 +1,38 @@
 use Prim.Native.Nat.{_≤_}
 use mathlib.Core.Path.{refl}
 use native.Mathlib.Omega.{arith}
-use Rattle.sheet.proofs.ReadLaws.{passes, few-queues, refused-header, refused-field, accepted, reads-refused}
 use borrow.Author.Needs.{needs}
+use Rattle.sheet.proofs.ReadLaws.{passes, few-queues, refused-header, refused-field, accepted, reads-refused}
 use Rattle.sheet.proofs.reader.read.Statement.{statement}
 use Rattle.sheet.proofs.reader.read.Tie as tie
-use Rattle.sheet.proofs.reader.read.Reads as reads
-use Rattle.sheet.proofs.reader.read.Lts as lts
-use Rattle.sheet.proofs.reader.bad_queue.Reads as bad-queue-reads
-use Rattle.sheet.proofs.reader.fields.Reads as fields-reads
-use Rattle.sheet.proofs.reader.header_fault.Reads as header-fault-reads
-use Rattle.sheet.proofs.reader.refused.Reads as refused-reads
 
 few : (c : tie.After-fields) → c .fields .result .m ≤ 64
 few c = few-queues _ _ (c .fields .ensures) (passes _ (c .before .before .header-fault .ensures) (c .before .if1 .left))
 
--- src/reader.rt:155:9
 header-fault-requires : tie.Need-header-fault-requires
 header-fault-requires c κs = search needs
 
--- src/reader.rt:157:9
 refused-requires : tie.Need-refused-requires
 refused-requires c κs = search needs
 
--- src/reader.rt:157:9
 returns : tie.Need-returns
 returns c =
     let h = c .before .before in
     reads-refused (h .before .before .args .s .now) _ _
     (refused-header (h .before .before .args .s .now) (h .header-fault .ensures) (c .before .if1 .taken)) (c .before .if1 .taken) (c .refused .ensures)
 
--- src/reader.rt:159:9
 fields-requires : tie.Need-fields-requires
 fields-requires c κs = passes _ (c .before .header-fault .ensures) (c .if1 .left)
 
--- src/reader.rt:160:9
 bad-queue-requires : tie.Need-bad-queue-requires
 bad-queue-requires c κs = few c
 
--- src/reader.rt:162:27
 cast-refused : tie.Need-cast-refused
 cast-refused c = omega (arith, few (c .before .before .before))
 
--- src/reader.rt:162:9
 refused-requires-2 : tie.Need-refused-requires-2
 refused-requires-2 c κs = search needs
 
--- src/reader.rt:162:9
 returns-2 : tie.Need-returns-2
 returns-2 c =
     let b = c .before .before .before in
@@ -55,7 +41,6 @@ returns-2 c =
     (refused-field _ _ (b .before .fields .ensures) (h .header-fault .ensures) (b .before .before .if1 .left) (b .bad-queue .ensures) (c .before .if2 .taken))
     (λ e. omega arith) (c .refused2 .ensures)
 
--- src/reader.rt:152:1
 returns-3 : tie.Need-returns-3
 returns-3 c =
     let b = c .before .before in

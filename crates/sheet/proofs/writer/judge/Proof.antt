@@ -2,22 +2,15 @@ use Prim.Native.Nat.{_*_, _≤_}
 use mathlib.Core.Path.{_≡_, refl, ap, _∙_}
 use native.Mathlib.Omega.{arith}
 use borrow.Author.Tests.{not-true, not-false}
+use borrow.Author.Needs.{needs}
 use Rattle.sheet.specs.declared.Sheet.{Sheet}
 use Rattle.sheet.specs.Limits.{CountsFit}
 use Rattle.sheet.specs.Format.{queueSize}
 use Rattle.sheet.specs.Write.{sheetFrom, SheetHanded}
 use Rattle.sheet.proofs.FormatLaws.{known, unknown, part-same}
 use Rattle.sheet.proofs.WriteLaws.{refused-version, refused-counts, refused-queue, refused-room, clear, free-to-write, judges-refused}
-use borrow.Author.Needs.{needs}
 use Rattle.sheet.proofs.writer.judge.Statement.{statement}
 use Rattle.sheet.proofs.writer.judge.Tie as tie
-use Rattle.sheet.proofs.writer.judge.Reads as reads
-use Rattle.sheet.proofs.writer.judge.Lts as lts
-use Rattle.sheet.proofs.limits.counts_fit.Reads as counts-fit-reads
-use Rattle.sheet.proofs.limits.first_bad.Reads as first-bad-reads
-use Rattle.sheet.proofs.limits.queue_size.Reads as queue-size-reads
-use Rattle.sheet.proofs.writer.handed.Reads as handed-reads
-use Rattle.sheet.proofs.writer.refused.Reads as refused-reads
 
 abbrev sheet : tie.Start → Sheet
 sheet c =
@@ -42,30 +35,24 @@ small c =
     let q = h .before .before .before .before .before in
     omega (arith, fits (h .before .before), part-same {m = begin q .args .m} (q .queue-size .ensures ∙ ap queueSize (one (h .before .before .before .before))) refl)
 
--- src/writer.rt:157:9
 queue-size-requires : tie.Need-queue-size-requires
 queue-size-requires c κs = search needs
 
--- src/writer.rt:159:9
 refused-requires : tie.Need-refused-requires
 refused-requires c κs = search needs
 
--- src/writer.rt:159:9
 returns : tie.Need-returns
 returns c =
     let q = c .before .before in
     judges-refused _ _ (refused-version (sheet (begin q)) (begin q .args .room) (unknown refl (q .queue-size .ensures) (c .before .if1 .taken)))
     (λ e. omega arith) (c .refused .ensures)
 
--- src/writer.rt:161:9
 counts-fit-requires : tie.Need-counts-fit-requires
 counts-fit-requires c κs = search needs
 
--- src/writer.rt:162:9
 refused-requires-2 : tie.Need-refused-requires-2
 refused-requires-2 c κs = search needs
 
--- src/writer.rt:162:9
 returns-2 : tie.Need-returns-2
 returns-2 c =
     let k = c .before .before in
@@ -74,15 +61,12 @@ returns-2 c =
     (refused-counts (sheet (begin q)) (begin q .args .room) (one (k .before)) (λ b. k .counts-fit .ensures .fails (not-true _ (c .before .if2 .taken)) (b .0)))
     (λ e. omega arith) (c .refused2 .ensures)
 
--- src/writer.rt:164:9
 handed-requires : tie.Need-handed-requires
 handed-requires c κs = search needs
 
--- src/writer.rt:165:9
 refused-requires-3 : tie.Need-refused-requires-3
 refused-requires-3 c κs = search needs
 
--- src/writer.rt:165:9
 returns-3 : tie.Need-returns-3
 returns-3 c =
     let h = c .before .before in
@@ -92,19 +76,15 @@ returns-3 c =
     (refused-counts (sheet (begin q)) (begin q .args .room) (one (k .before)) (λ b. h .handed .ensures .fails (not-true _ (c .before .if3 .taken)) (b .1)))
     (λ e. omega arith) (c .refused3 .ensures)
 
--- src/writer.rt:167:9
 first-bad-requires : tie.Need-first-bad-requires
 first-bad-requires c κs = let h = given c in omega arith
 
--- src/writer.rt:169:27
 cast-refused : tie.Need-cast-refused
 cast-refused c = omega (arith, fits (c .before .before .before .before))
 
--- src/writer.rt:169:9
 refused-requires-4 : tie.Need-refused-requires-4
 refused-requires-4 c κs = search needs
 
--- src/writer.rt:169:9
 returns-4 : tie.Need-returns-4
 returns-4 c =
     let b = c .before .before in
@@ -115,27 +95,21 @@ returns-4 c =
     (refused-queue (sheet (begin q)) (begin q .args .room) (one (k .before)) (fits (h .before .before)) (given h) (b .first-bad .ensures) (c .before .if4 .taken))
     (λ e. omega arith) (c .refused4 .ensures)
 
--- src/writer.rt:171:23
 mul-length : tie.Need-mul-length
 mul-length c = omega (arith, small c, fits (c .before .before .before .before))
 
--- src/writer.rt:171:18
 add-length : tie.Need-add-length
 add-length c = omega (arith, small c, fits (c .before .before .before .before))
 
--- src/writer.rt:171:31
 mul-length-2 : tie.Need-mul-length-2
 mul-length-2 c = omega (arith, small c, fits (c .before .before .before .before))
 
--- src/writer.rt:171:18
 add-length-2 : tie.Need-add-length-2
 add-length-2 c = omega (arith, small c, fits (c .before .before .before .before))
 
--- src/writer.rt:173:9
 refused-requires-5 : tie.Need-refused-requires-5
 refused-requires-5 c κs = search needs
 
--- src/writer.rt:173:9
 returns-5 : tie.Need-returns-5
 returns-5 c =
     let z = c .before .before in
@@ -147,7 +121,6 @@ returns-5 c =
     (refused-room (sheet (begin q)) (begin q .args .room) (one (k .before)) (fits (h .before .before)) (given h) (clear (sheet (begin q)) (b .first-bad .ensures) (z .if4 .left)) (omega (arith, part-same {m = begin q .args .m} (q .queue-size .ensures) refl)))
     (λ e. omega arith) (c .refused5 .ensures)
 
--- src/writer.rt:142:1
 returns-6 : tie.Need-returns-6
 returns-6 c =
     let z = c .before in

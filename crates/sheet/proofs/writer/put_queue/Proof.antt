@@ -1,54 +1,40 @@
 use mathlib.Core.Path.{refl}
+use borrow.Author.Needs.{needs}
 use Rattle.lists.proofs.PutLaws.{wrote, wrote-more}
 use Rattle.little.proofs.LittleLaws.{length-two}
-use borrow.Author.Needs.{needs}
 use Rattle.sheet.proofs.writer.put_queue.Statement.{statement}
 use Rattle.sheet.proofs.writer.put_queue.Tie as tie
-use Rattle.sheet.proofs.writer.put_queue.Reads as reads
-use Rattle.sheet.proofs.writer.put_queue.Lts as lts
-use Rattle.little.proofs.put_u16.Reads as put-u16-reads
 
--- src/writer.rt:98:5
 put-u16-requires : tie.Need-put-u16-requires
 put-u16-requires c κs = search needs
 
--- src/writer.rt:99:26
 add-put-u16 : tie.Need-add-put-u16
 add-put-u16 c = search needs
 
--- src/writer.rt:99:5
 put-u16-requires-2 : tie.Need-put-u16-requires-2
 put-u16-requires-2 c κs = search needs
 
--- src/writer.rt:100:26
 add-put-u16-2 : tie.Need-add-put-u16-2
 add-put-u16-2 c = search needs
 
--- src/writer.rt:100:5
 put-u16-requires-3 : tie.Need-put-u16-requires-3
 put-u16-requires-3 c κs = search needs
 
--- src/writer.rt:101:26
 add-put-u16-3 : tie.Need-add-put-u16-3
 add-put-u16-3 c = search needs
 
--- src/writer.rt:101:5
 put-u16-requires-4 : tie.Need-put-u16-requires-4
 put-u16-requires-4 c κs = search needs
 
--- src/writer.rt:102:26
 add-put-u16-4 : tie.Need-add-put-u16-4
 add-put-u16-4 c = search needs
 
--- src/writer.rt:102:5
 put-u16-requires-5 : tie.Need-put-u16-requires-5
 put-u16-requires-5 c κs = search needs
 
--- src/writer.rt:86:1
 same-length : tie.Need-same-length
 same-length c = search needs
 
--- src/writer.rt:86:1
 returns : tie.Need-returns
 returns c =
     wrote-more _

@@ -1,6 +1,6 @@
-use native.Mathlib.Omega.{arith}
 use Prim.Native.Nat.{_*_, _≤_, _-_}
 use mathlib.Core.Path.{_≡_, refl}
+use native.Mathlib.Omega.{arith}
 use lib.ListN.{length}
 use borrow.Author.Needs.{needs}
 use Rattle.lists.specs.Put.{Wrote}
@@ -10,9 +10,6 @@ use Rattle.sheet.specs.Format.{queueBytes}
 use Rattle.sheet.proofs.FormatLaws.{length-queue}
 use Rattle.sheet.proofs.writer.put_queues.Statement.{statement}
 use Rattle.sheet.proofs.writer.put_queues.Tie as tie
-use Rattle.sheet.proofs.writer.put_queues.Reads as reads
-use Rattle.sheet.proofs.writer.put_queues.Lts as lts
-use Rattle.sheet.proofs.writer.put_queue.Reads as put-queue-reads
 
 abbrev Inv-loop : tie.InvT-loop
 Inv-loop out₀ base m source sink produced consumed delay e₀ out e =
@@ -21,71 +18,54 @@ Inv-loop out₀ base m source sink produced consumed delay e₀ out e =
 abbrev μ-loop : tie.MeasureT-loop
 μ-loop out₀ base m source sink produced consumed delay e₀ out e = m - e
 
--- src/writer.rt:118:5
 loop-holds : tie.Need-loop-holds Inv-loop μ-loop
 loop-holds c = (search needs, (refl, wrote-none _ _ 10 _))
 
--- src/writer.rt:121:20
 mul-put-queue : tie.Need-mul-put-queue Inv-loop μ-loop
 mul-put-queue c = search needs
 
--- src/writer.rt:121:13
 add-put-queue : tie.Need-add-put-queue Inv-loop μ-loop
 add-put-queue c = search needs
 
--- src/writer.rt:122:13
 mul-put-queue-2 : tie.Need-mul-put-queue-2 Inv-loop μ-loop
 mul-put-queue-2 c = search needs
 
--- src/writer.rt:122:13
 shared-slice-read-put-queue : tie.Need-shared-slice-read-put-queue Inv-loop μ-loop
 shared-slice-read-put-queue c = search needs
 
--- src/writer.rt:123:13
 mul-put-queue-3 : tie.Need-mul-put-queue-3 Inv-loop μ-loop
 mul-put-queue-3 c = search needs
 
--- src/writer.rt:123:13
 shared-slice-read-put-queue-2 : tie.Need-shared-slice-read-put-queue-2 Inv-loop μ-loop
 shared-slice-read-put-queue-2 c = search needs
 
--- src/writer.rt:124:13
 mul-put-queue-4 : tie.Need-mul-put-queue-4 Inv-loop μ-loop
 mul-put-queue-4 c = search needs
 
--- src/writer.rt:124:13
 shared-slice-read-put-queue-3 : tie.Need-shared-slice-read-put-queue-3 Inv-loop μ-loop
 shared-slice-read-put-queue-3 c = search needs
 
--- src/writer.rt:125:13
 mul-put-queue-5 : tie.Need-mul-put-queue-5 Inv-loop μ-loop
 mul-put-queue-5 c = search needs
 
--- src/writer.rt:125:13
 shared-slice-read-put-queue-4 : tie.Need-shared-slice-read-put-queue-4 Inv-loop μ-loop
 shared-slice-read-put-queue-4 c = search needs
 
--- src/writer.rt:126:13
 mul-put-queue-6 : tie.Need-mul-put-queue-6 Inv-loop μ-loop
 mul-put-queue-6 c = search needs
 
--- src/writer.rt:126:13
 shared-slice-read-put-queue-5 : tie.Need-shared-slice-read-put-queue-5 Inv-loop μ-loop
 shared-slice-read-put-queue-5 c = search needs
 
--- src/writer.rt:119:9
 put-queue-requires : tie.Need-put-queue-requires Inv-loop μ-loop
 put-queue-requires c κs = search needs
 
--- src/writer.rt:118:9
 add-e : tie.Need-add-e Inv-loop μ-loop
 add-e c = search needs
 
--- src/writer.rt:118:5
 loop-less : tie.Need-loop-less Inv-loop μ-loop
 loop-less c = search needs
 
--- src/writer.rt:118:5
 loop-again : tie.Need-loop-again Inv-loop μ-loop
 unfolding queueBytes
 loop-again c =
@@ -100,11 +80,9 @@ loop-again c =
       ),
     )
 
--- src/writer.rt:105:1
 same-length : tie.Need-same-length Inv-loop μ-loop
 same-length c = search needs
 
--- src/writer.rt:105:1
 returns : tie.Need-returns Inv-loop μ-loop
 returns c =
     let h : c .before .loop .e ≡ c .before .before .before .before .before .before .before .before .args .m = omega arith in

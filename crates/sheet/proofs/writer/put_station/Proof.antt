@@ -1,30 +1,22 @@
 use mathlib.Core.Path.{refl}
+use borrow.Author.Needs.{needs}
 use Rattle.lists.proofs.PutLaws.{wrote, wrote-more}
 use Rattle.little.proofs.LittleLaws.{length-two}
-use borrow.Author.Needs.{needs}
 use Rattle.sheet.proofs.writer.put_station.Statement.{statement}
 use Rattle.sheet.proofs.writer.put_station.Tie as tie
-use Rattle.sheet.proofs.writer.put_station.Reads as reads
-use Rattle.sheet.proofs.writer.put_station.Lts as lts
-use Rattle.little.proofs.put_u16.Reads as put-u16-reads
 
--- src/writer.rt:73:5
 put-u16-requires : tie.Need-put-u16-requires
 put-u16-requires c κs = search needs
 
--- src/writer.rt:74:26
 add-put-u16 : tie.Need-add-put-u16
 add-put-u16 c = search needs
 
--- src/writer.rt:74:5
 put-u16-requires-2 : tie.Need-put-u16-requires-2
 put-u16-requires-2 c κs = search needs
 
--- src/writer.rt:69:1
 same-length : tie.Need-same-length
 same-length c = search needs
 
--- src/writer.rt:69:1
 returns : tie.Need-returns
 returns c =
     wrote-more _

@@ -1,6 +1,6 @@
-use native.Mathlib.Omega.{arith}
 use Prim.Native.Nat.{_*_, _≤_, _-_}
 use mathlib.Core.Path.{_≡_, refl}
+use native.Mathlib.Omega.{arith}
 use lib.ListN.{length}
 use borrow.Author.Needs.{needs}
 use Rattle.lists.specs.Put.{Wrote}
@@ -10,9 +10,6 @@ use Rattle.sheet.specs.Format.{stationBytes}
 use Rattle.sheet.proofs.FormatLaws.{length-station}
 use Rattle.sheet.proofs.writer.put_stations.Statement.{statement}
 use Rattle.sheet.proofs.writer.put_stations.Tie as tie
-use Rattle.sheet.proofs.writer.put_stations.Reads as reads
-use Rattle.sheet.proofs.writer.put_stations.Lts as lts
-use Rattle.sheet.proofs.writer.put_station.Reads as put-station-reads
 
 abbrev Inv-loop : tie.InvT-loop
 Inv-loop out₀ n tag time i₀ out i =
@@ -21,47 +18,36 @@ Inv-loop out₀ n tag time i₀ out i =
 abbrev μ-loop : tie.MeasureT-loop
 μ-loop out₀ n tag time i₀ out i = n - i
 
--- src/writer.rt:81:5
 loop-holds : tie.Need-loop-holds Inv-loop μ-loop
 loop-holds c = (search needs, (refl, wrote-none _ _ 4 _))
 
--- src/writer.rt:82:31
 mul-put-station : tie.Need-mul-put-station Inv-loop μ-loop
 mul-put-station c = search needs
 
--- src/writer.rt:82:26
 add-put-station : tie.Need-add-put-station Inv-loop μ-loop
 add-put-station c = search needs
 
--- src/writer.rt:82:38
 mul-put-station-2 : tie.Need-mul-put-station-2 Inv-loop μ-loop
 mul-put-station-2 c = search needs
 
--- src/writer.rt:82:38
 shared-slice-read-put-station : tie.Need-shared-slice-read-put-station Inv-loop μ-loop
 shared-slice-read-put-station c = search needs
 
--- src/writer.rt:82:46
 mul-put-station-3 : tie.Need-mul-put-station-3 Inv-loop μ-loop
 mul-put-station-3 c = search needs
 
--- src/writer.rt:82:46
 shared-slice-read-put-station-2 : tie.Need-shared-slice-read-put-station-2 Inv-loop μ-loop
 shared-slice-read-put-station-2 c = search needs
 
--- src/writer.rt:82:9
 put-station-requires : tie.Need-put-station-requires Inv-loop μ-loop
 put-station-requires c κs = search needs
 
--- src/writer.rt:81:9
 add-i : tie.Need-add-i Inv-loop μ-loop
 add-i c = search needs
 
--- src/writer.rt:81:5
 loop-less : tie.Need-loop-less Inv-loop μ-loop
 loop-less c = search needs
 
--- src/writer.rt:81:5
 loop-again : tie.Need-loop-again Inv-loop μ-loop
 unfolding stationBytes
 loop-again c =
@@ -75,11 +61,9 @@ loop-again c =
       ),
     )
 
--- src/writer.rt:77:1
 same-length : tie.Need-same-length Inv-loop μ-loop
 same-length c = search needs
 
--- src/writer.rt:77:1
 returns : tie.Need-returns Inv-loop μ-loop
 returns c =
     let h : c .before .loop .i ≡ c .before .before .before .before .before .args .n = omega arith in

@@ -1,18 +1,12 @@
 use mathlib.Core.Path.{refl}
-use lib.ListN.{length}
 use native.Mathlib.Omega.{arith}
+use lib.ListN.{length}
+use borrow.Author.Needs.{needs}
 use Rattle.sheet.specs.declared.Sheet.{Sheet}
 use Rattle.sheet.specs.Write.{sheetFrom}
 use Rattle.sheet.proofs.WriteLaws.{Writable, writable, all-written}
-use borrow.Author.Needs.{needs}
 use Rattle.sheet.proofs.writer.write.Statement.{statement}
 use Rattle.sheet.proofs.writer.write.Tie as tie
-use Rattle.sheet.proofs.writer.write.Reads as reads
-use Rattle.sheet.proofs.writer.write.Lts as lts
-use Rattle.sheet.proofs.writer.judge.Reads as judge-reads
-use Rattle.sheet.proofs.writer.put_header.Reads as put-header-reads
-use Rattle.sheet.proofs.writer.put_queues.Reads as put-queues-reads
-use Rattle.sheet.proofs.writer.put_stations.Reads as put-stations-reads
 
 abbrev sheet : tie.Start → Sheet
 sheet c =
@@ -24,11 +18,9 @@ begin c = c .before .before .before .before .before .before .before .before .bef
 ok : (c : tie.Else1) → Writable (sheet (begin (c .before .before))) (length (begin (c .before .before) .args .out .now))
 ok c = writable (sheet (begin (c .before .before))) (c .before .before .judge .ensures .verdict) (c .if1 .left)
 
--- src/writer.rt:199:9
 judge-requires : tie.Need-judge-requires
 judge-requires c κs = search needs
 
--- src/writer.rt:213:9
 returns : tie.Need-returns
 returns c =
     record {
@@ -37,31 +29,24 @@ returns c =
       refused = λ n. refl;
     }
 
--- src/writer.rt:215:5
 put-header-requires : tie.Need-put-header-requires
 put-header-requires c κs = let w = ok (c .before) in (omega arith, w .counts)
 
--- src/writer.rt:216:5
 put-stations-requires : tie.Need-put-stations-requires
 put-stations-requires c κs = let w = ok (c .before .before .before .before .before) in omega (arith, w .handed, w .fits)
 
--- src/writer.rt:217:26
 mul-put-queues : tie.Need-mul-put-queues
 mul-put-queues c = omega (arith, ok (c .before .before .before .before .before .before .before .before .before))
 
--- src/writer.rt:217:21
 add-put-queues : tie.Need-add-put-queues
 add-put-queues c = omega (arith, ok (c .before .before .before .before .before .before .before .before .before))
 
--- src/writer.rt:217:5
 put-queues-requires : tie.Need-put-queues-requires
 put-queues-requires c κs = let w = ok (c .before .before .before .before .before .before .before .before .before) in omega (arith, w .handed, w .fits)
 
--- src/writer.rt:183:1
 same-length : tie.Need-same-length
 same-length c = search needs
 
--- src/writer.rt:183:1
 returns-2 : tie.Need-returns-2
 returns-2 c =
     let q = c .before .before in
