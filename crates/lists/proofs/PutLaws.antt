@@ -5,18 +5,10 @@ use mathlib.Core.List.{List, [], _∷_, _++_}
 use native.Mathlib.Nat.{add-zero, add-suc, suc-add, zero-add, mul-zero, mul-add, mul-one}
 use native.Mathlib.Numerals.{add-one}
 use lib.ListN.{length, drop, set, length-append}
-use lib.Seq.{sets, sets-eq, length-sets}
+use lib.Seq.{sets-eq}
 use Rattle.lists.specs.Put.{put, Wrote}
 use Rattle.lists.specs.Joined.{joined}
 use Rattle.lists.proofs.JoinedLaws.{joined-more}
-
-pub length-put : (l : List ℕ) (i : ℕ) (v : List ℕ) → length (put l i v) ≡ length l
-unfolding put
-length-put l i v = length-sets l i v
-
-pub put-none : (l : List ℕ) (i : ℕ) → l ≡ put l i []
-unfolding put
-put-none l i = refl
 
 pub put-two : (l : List ℕ) (i x y : ℕ) → set (set l i x) (i + 1) y ≡ put l i (x ∷ y ∷ [])
 unfolding put

@@ -1,6 +1,6 @@
 -- "The first that applies is given."
 use Prim.Native.Nat.{ℕ, _<_}
-use mathlib.Core.List.{List, [], _∷_}
+use mathlib.Core.List.{List}
 use lib.ListN.{length, getD}
 use Rattle.refusals.specs.Table.{Refusal, short, number}
 

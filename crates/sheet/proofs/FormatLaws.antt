@@ -1,5 +1,5 @@
 -- The laws of a sheet's layout.
-use Prim.Native.Nat.{ℕ, zero, suc, _+_, _*_, _≤_, _<_}
+use Prim.Native.Nat.{ℕ, zero, suc, _+_, _*_, _≤_}
 use mathlib.Core.Path.{_≡_, refl, ap, ap₂, _∙_}
 use mathlib.Core.List.{List}
 use lib.ListN.{length, length-append}
@@ -34,14 +34,10 @@ module _ {v x size : ℕ} (is : x ≡ v) (sized : size ≡ queueSize x) where
 pub part-same : {k m k′ m′ : ℕ} → k ≡ k′ → m ≡ m′ → k * m ≡ k′ * m′
 part-same p q = ap₂ _*_ p q
 
--- a column of station fields, and one of queue fields, lies within the sheet
+-- a column of queue fields lies within the sheet
 module _ (s : List ℕ) (ok : Passes s) where
   pub ends : length s ≡ 20 + 4 * stations s + 10 * queues s
   ends = omega (arith, part-same {m = queues s} (ap queueSize (ok .known)) refl, ok .laid .ends)
-
-  pub stations-apart : {n : ℕ} (from : ℕ) → n ≡ stations s → from ≤ 22 → Apart from 4 n (length s) 32
-  stations-apart from e h =
-      record { fits = omega (arith, ok .header .counts); within = λ i l. omega (arith, ends) }
 
   pub queues-apart : {m size : ℕ} (from : ℕ) → m ≡ queues s → size ≡ queueSize (version s) → from ≤ queueStart (stations s) + 8 → Apart from size m (length s) 64
   queues-apart from e z h =

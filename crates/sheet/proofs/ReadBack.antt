@@ -1,7 +1,7 @@
 -- Reading what was written gives the same sheet.
-use Prim.Native.Nat.{ℕ, _+_, _*_, _/_, _%_, _≤_, _<_}
+use Prim.Native.Nat.{ℕ, _+_, _*_, _/_, _%_, _<_}
 use mathlib.Core.Path.{_≡_, refl, sym, ap, _∙_}
-use mathlib.Core.List.{List, [], _∷_, _++_}
+use mathlib.Core.List.{List, _++_}
 use native.Mathlib.Omega.{arith}
 use lib.ListN.{length, take, length-append, List·getD-append}
 use lib.Seq.{getD-append-add, take-at}
@@ -9,7 +9,7 @@ use Rattle.lists.specs.Front.{at}
 use Rattle.lists.specs.Joined.{joined}
 use Rattle.lists.proofs.FrontLaws.{front-same}
 use Rattle.lists.proofs.JoinedLaws.{at-joined}
-use Rattle.little.specs.Little.{u16le, two, four, columnAt}
+use Rattle.little.specs.Little.{two, four, columnAt}
 use Rattle.refusals.specs.First.{Passed}
 use Rattle.refusals.proofs.FirstLaws.{passed, none, all-passed}
 use Rattle.sheet.specs.declared.Sheet.{Sheet}

@@ -1,11 +1,11 @@
 -- The laws of reading.
 use Prim.Native.Nat.{ℕ, _≤_, _<_}
-use mathlib.Core.Path.{_≡_, refl, ap, sym, _∙_}
+use mathlib.Core.Path.{_≡_, refl}
 use mathlib.Core.List.{List, [], _∷_}
 use native.Mathlib.Omega.{arith}
 use Rattle.lists.specs.Lowest.{LowestFailing}
 use Rattle.lists.proofs.Order.{le-stable, eq-stable}
-use Rattle.refusals.specs.Table.{field, number}
+use Rattle.refusals.specs.Table.{number}
 use Rattle.refusals.specs.First.{First}
 use Rattle.refusals.proofs.FirstLaws.{here, passed, none, extend, append, all-passed}
 use Rattle.sheet.specs.declared.Sheet.{Sheet}

@@ -1,5 +1,4 @@
 -- The definitions, held against the bytes that document 01 prints.
-use Prim.Native.Nat.{ℕ}
 use mathlib.Core.Path.{_≡_, refl}
 use Rattle.lists.specs.Front.{table, front}
 use Rattle.lists.specs.Joined.{joined}

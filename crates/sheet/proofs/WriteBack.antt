@@ -7,15 +7,13 @@ use lib.ListN.{length, take, drop, replicate, length-replicate}
 use lib.Seq.{getD-take, length-take-le}
 use Rattle.lists.specs.Front.{at}
 use Rattle.lists.specs.Part.{part}
-use Rattle.lists.specs.Joined.{joined}
 use Rattle.lists.proofs.FrontLaws.{at-front, length-front}
 use Rattle.lists.proofs.PartLaws.{part-join, part-all, part-joined}
 use Rattle.lists.proofs.JoinedLaws.{joined-same}
-use Rattle.little.specs.Little.{Bytes, u16le, u32le, two, four, columnAt}
+use Rattle.little.specs.Little.{Bytes, two, four, columnAt}
 use Rattle.little.proofs.LittleLaws.{two-u16, four-u32}
 use Rattle.refusals.specs.First.{Passed, First}
 use Rattle.refusals.proofs.FirstLaws.{unique, all-passed}
-use Rattle.sheet.specs.declared.Sheet.{Sheet}
 use Rattle.sheet.specs.declared.Reading.{Reading}
 use Rattle.sheet.specs.declared.Written.{Written}
 use Rattle.sheet.specs.Format.{version, stations, queues, target, queueSize, queueStart, sheetEnd, padded, headerBytes, stationBytes, queueBytes, bytesOf, sheetOf}

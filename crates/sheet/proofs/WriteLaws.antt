@@ -1,6 +1,6 @@
 -- The laws of writing.
 use Prim.Native.Nat.{ℕ, _+_, _*_, _≤_, _<_}
-use mathlib.Core.Path.{_≡_, refl, ap, sym, _∙_}
+use mathlib.Core.Path.{_≡_, refl, ap, _∙_}
 use mathlib.Core.List.{List, [], _∷_, _++_}
 use lib.ListN.{length, drop}
 use native.Mathlib.Omega.{arith}
@@ -17,7 +17,7 @@ use Rattle.refusals.proofs.FirstLaws.{here, here-now, passed, none, all-passed}
 use Rattle.sheet.specs.declared.Sheet.{Sheet}
 use Rattle.sheet.specs.declared.Written.{Written}
 use Rattle.sheet.specs.Limits.{CountsFit, SheetQueueFits}
-use Rattle.sheet.specs.Format.{queueSize, queueStart, sheetEnd, headerBytes, stationBytes, queueBytes, bytesOf}
+use Rattle.sheet.specs.Format.{queueSize, sheetEnd, headerBytes, stationBytes, queueBytes, bytesOf}
 use Rattle.sheet.specs.Read.{fieldRow}
 use Rattle.sheet.specs.Write.{SheetHanded, writeRows, Judges}
 use Rattle.sheet.proofs.FormatLaws.{part-same, length-header, length-stations, length-queues, length-bytes}

@@ -1,5 +1,4 @@
 -- A sheet's columns as the writer takes them and as the reader gives them.
-use Prim.Native.Nat.{ℕ}
 use lib.ListN.{take}
 use Rattle.lists.specs.Front.{at}
 use Rattle.sheet.specs.declared.Sheet.{Sheet}
