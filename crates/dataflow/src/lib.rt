@@ -1,0 +1,1 @@
+// Definitions and laws of the dataflow. No function.
