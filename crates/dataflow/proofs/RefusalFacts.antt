@@ -11,7 +11,7 @@ use Rattle.dataflow.specs.Paths.{alone}
 use Rattle.dataflow.specs.Retiming.{retimed, byHand}
 use Rattle.dataflow.specs.Refusals.{Joined, here, along, against, apartRow, countsRow, handRow, moveRow, tokenRow, slowRow, stuckRow, retimingRow}
 use Rattle.dataflow.specs.Sheet.{net, delays}
-use Rattle.dataflow.specs.Samples.{lone, queue}
+use Rattle.dataflow.specs.Samples.{sheet, lone, queue}
 use Rattle.dataflow.proofs.Decide.{by-yes, list-dec}
 use Rattle.dataflow.proofs.BenchFacts.{GK, dK, sound-K, stuck-K}
 use Rattle.dataflow.proofs.SumTable.{latest, edge-dec}
@@ -19,7 +19,7 @@ use Rattle.dataflow.proofs.Computed.{computed-period}
 
 -- 6: two stations and no queue
 abbrev apartNet : Net
-apartNet = net (record { times = 1 ∷ 1 ∷ []; queues = []; target = 1 }) (1 ∷ 1 ∷ [])
+apartNet = net (sheet (1 ∷ 1 ∷ []) [] 1) (1 ∷ 1 ∷ [])
 
 only-itself : {u v : ℕ} → Joined apartNet u v → u ≡ v
 only-itself here = refl
