@@ -1,8 +1,10 @@
 -- The laws of what a test tells.
-use Prim.Native.Nat.{ℕ}
+use Prim.Native.Nat.{ℕ, _<_}
 use mathlib.Core.Path.{_≡_}
 use mathlib.Core.Bool.{Bool, true, false}
 use native.Mathlib.Omega.{arith}
+use lib.Dec.{ltb}
+use borrow.Author.Tests.{ltb-true, ltb-false}
 use Rattle.lists.specs.Test.{Tells}
 
 differ : {b : Bool} → b ≡ true → b ≡ false → ⊥
@@ -13,3 +15,7 @@ tells-true t p = record { holds = λ e. p; fails = λ e q. differ t e }
 
 pub tells-false : {P : Type 0} {b : Bool} → b ≡ false → (P → ⊥) → Tells b P
 tells-false f n = record { holds = λ e. absurd (differ e f); fails = λ e. n }
+
+-- a comparison tells what it compares
+pub tells-lt : (a b : ℕ) → Tells (ltb a b) (a < b)
+tells-lt a b = record { holds = ltb-true a b; fails = λ e l. let g = ltb-false a b e in omega arith }

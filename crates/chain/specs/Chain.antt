@@ -1,0 +1,31 @@
+-- A chain of stations as the planner's routines are lent it: n stations, m queues, and a column for each field.
+use Prim.Native.Nat.{ℕ, _≤_, _<_}
+use mathlib.Core.List.{List}
+use Rattle.lists.specs.Front.{at}
+use Rattle.dataflow.specs.Sheet.{Sheet}
+
+-- the sheet of these columns; where an argument plays no part it is [] or 0
+abbrev pub sheetOf : (n m : ℕ) (source sink produced consumed delay time : List ℕ) → Sheet
+sheetOf n m source sink produced consumed delay time = record {
+  stations = n;
+  queues = m;
+  time = time;
+  source = source;
+  sink = sink;
+  produced = produced;
+  consumed = consumed;
+  delay = delay;
+  target = 0;
+}
+
+-- n and m are within limits, each queue joins two stations, and its rates are within limits
+pub record Chain (n m : ℕ) (source sink produced consumed : List ℕ) : Type 0 where
+  pub some : 1 ≤ n
+  pub few : n ≤ 32
+  pub few-queues : m ≤ 64
+  pub leaves : (e : ℕ) → e < m → at source e < n
+  pub enters : (e : ℕ) → e < m → at sink e < n
+  pub makes : (e : ℕ) → e < m → 1 ≤ at produced e
+  pub makes-most : (e : ℕ) → e < m → at produced e ≤ 64
+  pub takes : (e : ℕ) → e < m → 1 ≤ at consumed e
+  pub takes-most : (e : ℕ) → e < m → at consumed e ≤ 64

@@ -1,0 +1,2 @@
+pub mod ThreadLaws
+pub mod ScanLaws

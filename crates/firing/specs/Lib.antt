@@ -1,0 +1,2 @@
+pub mod Into
+pub mod Scan

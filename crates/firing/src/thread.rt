@@ -1,0 +1,36 @@
+// The queues into each station, found without a scan of all queues.
+ghost use Rattle.chain.specs.Chain.{Chain};
+ghost use Rattle.firing.specs.Into.{Threads};
+use crate::wide;
+
+// The lowest queue into each station, and behind each queue the next one into the same station; m where there is none.
+pub struct Thread {
+    pub head: [u16; 32],
+    pub next: [u16; 64],
+}
+
+// One pass over the queues.
+pub fn threads(
+    n: usize,
+    m: usize,
+    source: &[u16; 64],
+    sink: &[u16; 64],
+    produced: &[u16; 64],
+    consumed: &[u16; 64],
+) -> Thread
+    requires { ⌜ Chain n m (now source) (now sink) (now produced) (now consumed) ⌝ }
+    ensures { λ r. ⌜ Threads n m (now (sink .entry)) (r .head) (r .next) ⌝ }
+{
+    let none = m as u16;
+    let mut head = [none; 32];
+    let mut next = [none; 64];
+    let mut left = m;
+    while 0 < left {
+        let e = left - 1;
+        let v = wide(sink[e]);
+        next[e] = head[v];
+        head[v] = e as u16;
+        left = e;
+    }
+    Thread { head, next }
+}
