@@ -41,6 +41,15 @@ module _ (G : Net) (wanted : ℕ → ℕ) where
     pub left : fired v < wanted v
     pub short : (w : ℕ) → fired w < wanted w → Short G D fired w
 
+module _ (G : Net) (D : G .Queue → ℕ) where
+  -- a queue that lacks tokens, by the numbers of firings done
+  pub short-of : (S : State G) → ((e : G .Queue) → HoldsAt G D S e) → (v : ℕ) → Lacking G S v → Short G D (S .fired) v
+  short-of S h v r = record {
+    queue = r .queue;
+    to = r .to;
+    lacks = omega (arith, r .lacks, holds-length (D (r .queue)) (G .produced (r .queue)) (G .consumed (r .queue)) _ _ (S .holds (r .queue)) (h (r .queue)), ap (λ (w : ℕ). S .fired w * G .consumed (r .queue)) (r .to));
+  }
+
 module _ (G : Net) (W : Sound G) (D : G .Queue → ℕ) (wanted : ℕ → ℕ) (real : (v : ℕ) → 1 ≤ wanted v → v < G .stations) where
   -- v has firings left and is ready, or it has none left or lacks tokens
   Can : State G → ℕ → Type 0
@@ -63,13 +72,6 @@ module _ (G : Net) (W : Sound G) (D : G .Queue → ℕ) (wanted : ℕ → ℕ) (
   apart S v (inl a) c = omega (arith, c .0)
   apart S v (inr r) c = omega (arith, r .lacks, c .1 (r .queue) (r .to))
 
-  short-of : (S : State G) → ((e : G .Queue) → HoldsAt G D S e) → (v : ℕ) → Lacking G S v → Short G D (S .fired) v
-  short-of S h v r = record {
-    queue = r .queue;
-    to = r .to;
-    lacks = omega (arith, r .lacks, holds-length (D (r .queue)) (G .produced (r .queue)) (G .consumed (r .queue)) _ _ (S .holds (r .queue)) (h (r .queue)), ap (λ (w : ℕ). S .fired w * G .consumed (r .queue)) (r .to));
-  }
-
   abbrev Ends : State G → Type 0
   Ends S = ((l : List ℕ) × FiringList G wanted S l) ⊎ Stalled G wanted D
 
@@ -88,7 +90,7 @@ module _ (G : Net) (W : Sound G) (D : G .Queue → ℕ) (wanted : ℕ → ℕ) (
         where
           pick : (w : ℕ) → S .fired w < wanted w → Cannot S w → Short G D (S .fired) w
           pick w k (inl a) = absurd (omega arith)
-          pick w k (inr r) = short-of S h w r
+          pick w k (inr r) = short-of G D S h w r
 
       some-left : (n : ℕ) → ((v : ℕ) × (S .fired v < wanted v)) ⊎ ((v : ℕ) → v < n → S .fired v ≡ wanted v)
       some-left zero = inr (λ v k. absurd (omega arith))

@@ -32,6 +32,7 @@ pub mod MoveLaws
 pub mod DispatchLaws
 pub mod CountLaws
 pub mod PlanLaws
+pub mod PrefixLaws
 pub mod Computed
 pub mod PlanFacts
 pub mod SpectrumFacts

@@ -20,7 +20,7 @@ sum-one-beyond (suc n) f v h = go (ℕ-discrete n v) (sum-one-beyond n f v (omeg
     go (yes e) ih = absurd (omega arith)
     go (no e) ih = omega arith
 
-sum-one : (n : ℕ) (f : ℕ → ℕ) (v : ℕ) → v < n → sum n (λ w. f w + whenever (ℕ-discrete w v) 1) ≡ suc (sum n f)
+pub sum-one : (n : ℕ) (f : ℕ → ℕ) (v : ℕ) → v < n → sum n (λ w. f w + whenever (ℕ-discrete w v) 1) ≡ suc (sum n f)
 sum-one zero f v h = absurd (omega arith)
 sum-one (suc n) f v h = go (ℕ-discrete n v) (λ k. sum-one n f v k)
   where

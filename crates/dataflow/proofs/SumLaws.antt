@@ -2,7 +2,7 @@
 use mathlib.Core.Path.{_≡_, refl}
 use Prim.Native.Nat.{ℕ, zero, suc, _+_, _*_, _≤_, _<_}
 use native.Mathlib.Omega.{arith}
-use native.Mathlib.Decide.{ℕ-discrete}
+use native.Mathlib.Decide.{ℕ-discrete, decLt}
 use Rattle.dataflow.specs.Counts.{sum}
 
 pub sum-le : (n : ℕ) (f g : ℕ → ℕ) → ((v : ℕ) → f v ≤ g v) → sum n f ≤ sum n g
@@ -32,3 +32,20 @@ sum-above (suc n) f v h = elim (ℕ-discrete v n) [ yes e ↦ rw e (omega arith)
 pub sum-before : (q : ℕ → ℕ) (v w : ℕ) → v < w → sum v q + q v ≤ sum w q
 sum-before q v zero h = absurd (omega arith)
 sum-before q v (suc w) h = elim (ℕ-discrete v w) [ yes e ↦ rw e (omega arith) | no n ↦ omega (arith, sum-before q v w (omega arith)) ]
+
+-- where one sum is below another, some number of it is
+pub sum-less : (n : ℕ) (f g : ℕ → ℕ) → sum n f < sum n g → (v : ℕ) × (v < n) × (f v < g v)
+sum-less zero f g h = absurd (omega arith)
+sum-less (suc n) f g h = go (decLt (f n) (g n)) (λ k. sum-less n f g k)
+  where
+    go : Dec (f n < g n) → (sum n f < sum n g → (v : ℕ) × (v < n) × (f v < g v)) → (v : ℕ) × (v < suc n) × (f v < g v)
+    go (yes l) ih = (n, omega arith, l)
+    go (no l) ih = let x = ih (omega arith) in (x .0, omega (arith, x .1), x .2)
+
+-- numbers that are nowhere above others and have the same sum are the same
+pub sum-tight : (n : ℕ) (f g : ℕ → ℕ) → ((v : ℕ) → f v ≤ g v) → sum n f ≡ sum n g → (v : ℕ) → v < n → f v ≡ g v
+sum-tight n f g le e v h = go (decLt (f v) (g v))
+  where
+    go : Dec (f v < g v) → f v ≡ g v
+    go (yes l) = absurd (omega (arith, sum-lt n f g le v h l))
+    go (no l) = omega (arith, le v)

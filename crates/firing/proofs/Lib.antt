@@ -1,2 +1,3 @@
 pub mod ThreadLaws
 pub mod ScanLaws
+pub mod RoundLaws

@@ -8,7 +8,7 @@ use lib.ListN.{length, set}
 use lib.Seq.{getD-set-same, getD-set-other}
 use Rattle.lists.specs.Front.{at}
 use Rattle.lists.proofs.Order.{order}
-use Rattle.firing.specs.Into.{FirstInto, Threads}
+use Rattle.firing.specs.Into.{FirstInto}
 
 -- the threads through the queues from `from` on
 pub record Threading (n m : ℕ) (sink head next : List ℕ) (from : ℕ) : Type 0 where

@@ -1,2 +1,3 @@
 pub mod Into
 pub mod Scan
+pub mod Round

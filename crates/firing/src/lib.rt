@@ -2,12 +2,25 @@
 ghost use mathlib.Core.Path.{_≡_};
 ghost use Prim.Native.Nat.{_<_};
 
+mod round;
 mod scan;
 mod thread;
 
+pub use round::fire_round;
 pub use scan::ready;
-pub use thread::Thread;
 pub use thread::threads;
+
+// The lowest queue into each station, and behind each queue the next one into the same station; m where there is none.
+pub struct Threaded {
+    pub head: [u16; 32],
+    pub next: [u16; 64],
+}
+
+// The stations in the order in which they fire, where the round can be fired at all.
+pub struct Fired {
+    pub fires: bool,
+    pub list: [u16; 256],
+}
 
 pub(crate) fn wide(x: u16) -> usize
     ensures { λ r. ⌜ (r ≡ x) × (r < 65536) ⌝ }

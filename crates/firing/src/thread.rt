@@ -1,13 +1,8 @@
 // The queues into each station, found without a scan of all queues.
 ghost use Rattle.chain.specs.Chain.{Chain};
 ghost use Rattle.firing.specs.Into.{Threads};
+use crate::Threaded;
 use crate::wide;
-
-// The lowest queue into each station, and behind each queue the next one into the same station; m where there is none.
-pub struct Thread {
-    pub head: [u16; 32],
-    pub next: [u16; 64],
-}
 
 // One pass over the queues.
 pub fn threads(
@@ -17,7 +12,7 @@ pub fn threads(
     sink: &[u16; 64],
     produced: &[u16; 64],
     consumed: &[u16; 64],
-) -> Thread
+) -> Threaded
     requires { ⌜ Chain n m (now source) (now sink) (now produced) (now consumed) ⌝ }
     ensures { λ r. ⌜ Threads n m (now (sink .entry)) (r .head) (r .next) ⌝ }
 {
@@ -32,5 +27,5 @@ pub fn threads(
         head[v] = e as u16;
         left = e;
     }
-    Thread { head, next }
+    Threaded { head, next }
 }

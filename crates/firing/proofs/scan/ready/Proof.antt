@@ -166,11 +166,16 @@ short-requires : tie.Need-short-requires Inv-loop μ-loop Inv-stations μ-statio
 short-requires c κs =
     let l = c .before .before .before .before .before .before .before .before .before .before in
     let z = begin l in
-    let e = l .loop .e in
-    (z .pre .1 .1 .delays e,
-    (z .pre .1 .1 .firings _,
-    (omega (arith, z .pre .0 .makes-most e (omega arith), c .before .before .before .wide32 .ensures),
-    (z .pre .1 .1 .firings _, omega (arith, z .pre .0 .takes-most e (omega arith), c .wide322 .ensures)))))
+    let e = l .loop .e in (
+      z .pre .1 .1 .delays e,
+      (
+        z .pre .1 .1 .firings _,
+        (
+          omega (arith, z .pre .0 .makes-most e (omega arith), c .before .before .before .wide32 .ensures),
+          (z .pre .1 .1 .firings _, omega (arith, z .pre .0 .takes-most e (omega arith), c .wide322 .ensures)),
+        ),
+      ),
+    )
 
 -- src/scan.rt:36:5
 stations-less-2 : tie.Need-stations-less-2 Inv-loop μ-loop Inv-stations μ-stations

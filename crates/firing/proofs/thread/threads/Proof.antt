@@ -27,11 +27,16 @@ cast-none c = search needs
 
 -- src/thread.rt:28:5
 loop-holds : tie.Need-loop-holds Inv-loop μ-loop
-loop-holds c =
-    (search needs,
-    (refl,
-    (refl,
-    none-threaded (c .args .n) (c .args .m) (c .args .sink .now) _ _ (λ v b. getD-replicate 32 v (c .args .m) 0 (omega (arith, c .pre .few))))))
+loop-holds c = (
+  search needs,
+  (
+    refl,
+    (
+      refl,
+      none-threaded (c .args .n) (c .args .m) (c .args .sink .now) _ _ (λ v b. getD-replicate 32 v (c .args .m) 0 (omega (arith, c .pre .few))),
+    ),
+  ),
+)
 
 -- src/thread.rt:29:17
 sub-e : tie.Need-sub-e Inv-loop μ-loop

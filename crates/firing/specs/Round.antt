@@ -1,0 +1,38 @@
+-- One round, fired by the ready scan.
+use Prim.Native.Nat.{ℕ, _*_, _≤_, _<_}
+use mathlib.Core.Path.{_≡_}
+use mathlib.Core.Bool.{true, false}
+use mathlib.Core.List.{List, []}
+use lib.ListN.{length, take, replicate}
+use Rattle.lists.specs.Front.{at}
+use Rattle.dataflow.specs.Net.{Net}
+use Rattle.dataflow.specs.Counts.{sum}
+use Rattle.dataflow.specs.Sheet.{Below, net}
+use Rattle.dataflow.specs.Lists.{RoundList}
+use Rattle.dataflow.specs.Stuck.{Stuck}
+use Rattle.chain.specs.Chain.{Chain, sheetOf}
+use Rattle.firing.specs.declared.Fired.{Fired}
+
+-- the net of a chain with stations of these times
+abbrev pub netOf : (n m : ℕ) (source sink produced consumed time q : List ℕ) → Net
+netOf n m source sink produced consumed time q = net (sheetOf n m source sink produced consumed [] time) q
+
+-- a column of delays, by queues
+abbrev pub delaysOf : (m : ℕ) (delay : List ℕ) → Below m → ℕ
+delaysOf m delay e = at delay (e .0)
+
+-- a chain with counts that balance it, total in all
+pub record Counted (n m : ℕ) (source sink produced consumed q : List ℕ) (total : ℕ) : Type 0 where
+  pub chain : Chain n m source sink produced consumed
+  pub positive : (v : ℕ) → v < n → 1 ≤ at q v
+  pub beyond : (v : ℕ) → n ≤ v → at q v ≡ 0
+  pub balanced : (e : ℕ) → e < m → at q (at source e) * at produced e ≡ at q (at sink e) * at consumed e
+  pub adds : sum n (at q) ≡ total
+  pub few : total ≤ 256
+
+-- the round list and 0 behind it, or stuck and nothing but 0; the times of the stations play no part
+pub record Rounds (n m : ℕ) (source sink produced consumed delay q : List ℕ) (total : ℕ) (r : Fired) : Type 0 where
+  pub list : r .fires ≡ true → (time : List ℕ) → RoundList (netOf n m source sink produced consumed time q) (delaysOf m delay) (take total (r .list))
+  pub rest : r .fires ≡ true → (k : ℕ) → total ≤ k → at (r .list) k ≡ 0
+  pub stuck : r .fires ≡ false → (time : List ℕ) → Stuck (netOf n m source sink produced consumed time q) (delaysOf m delay)
+  pub blank : r .fires ≡ false → r .list ≡ replicate 256 0
