@@ -1,3 +1,5 @@
 pub mod ThreadLaws
 pub mod ScanLaws
 pub mod RoundLaws
+pub mod BaseLaws
+pub mod StartLaws

@@ -24,7 +24,7 @@ use Rattle.firing.specs.Scan.{Fed, Can, LowestThatCan}
 use Rattle.firing.specs.Round.{netOf, delaysOf, Counted}
 
 -- a new list of 0 is 0 everywhere
-zeros : (size v : ℕ) → at (replicate size 0) v ≡ 0
+pub zeros : (size v : ℕ) → at (replicate size 0) v ≡ 0
 zeros size v =
     ⊎-elim
     (λ l. getD-replicate size v 0 0 l)

@@ -1,3 +1,4 @@
 pub mod Into
 pub mod Scan
 pub mod Round
+pub mod Times

@@ -5,10 +5,12 @@ ghost use Prim.Native.Nat.{_<_};
 mod round;
 mod scan;
 mod thread;
+mod times;
 
 pub use round::fire_round;
 pub use scan::ready;
 pub use thread::threads;
+pub use times::bases;
 
 // The lowest queue into each station, and behind each queue the next one into the same station; m where there is none.
 pub struct Threaded {

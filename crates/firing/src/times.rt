@@ -1,0 +1,82 @@
+// The time table.
+ghost use mathlib.Core.Path.{_≡_};
+ghost use Prim.Native.Nat.{_≤_, _<_, max};
+ghost use Rattle.lists.specs.Front.{at};
+ghost use Rattle.dataflow.specs.Counts.{sum};
+ghost use Rattle.firing.specs.Into.{Threads};
+ghost use Rattle.firing.specs.Round.{Counted};
+ghost use Rattle.firing.specs.Times.{Bases, HoldsUp, HeldSmall, Waits, StartsAt};
+use crate::wide;
+use crate::wide32;
+
+// Where the copies of each station begin in the time table. One pass over the stations.
+pub fn bases(n: usize, q: &[u32; 32]) -> [u32; 33]
+    requires { ⌜ (n ≤ 32) × (sum n (at (now q)) ≤ 256) ⌝ }
+    ensures { λ r. ⌜ Bases n (now (q .entry)) r ⌝ }
+{
+    let mut base = [0u32; 33];
+    for v in 0..n {
+        base[v + 1] = base[v] + q[v];
+    }
+    base
+}
+
+fn later(a: u32, b: u32) -> u32
+    ensures { λ r. ⌜ r ≡ max a b ⌝ }
+{
+    if a < b { b } else { a }
+}
+
+// How long one queue holds a copy up that needs this many tokens of it in all.
+fn held(delay: u32, needed: u32, produced: u32, base: u32, time: u32, table: &[u32; 256]) -> u32
+    requires { ⌜ HeldSmall delay needed produced base (now table) × (time < 65536) ⌝ }
+    ensures { λ r. ⌜ HoldsUp delay needed produced base time (now (table .entry)) r ⌝ }
+{
+    if needed <= delay {
+        return 0;
+    }
+    let maker = (needed - 1 - delay) / produced;
+    let place = (base + maker) as usize;
+    table[place] + time
+}
+
+// The start of the next copy of v: the latest finish of the copies that make its last tokens. One step for each queue into v.
+fn start_of(
+    n: usize,
+    m: usize,
+    total: usize,
+    v: usize,
+    source: &[u16; 64],
+    sink: &[u16; 64],
+    produced: &[u16; 64],
+    consumed: &[u16; 64],
+    delay: &[u32; 64],
+    head: &[u16; 32],
+    next: &[u16; 64],
+    q: &[u32; 32],
+    base: &[u32; 33],
+    time: &[u16; 32],
+    fired: &[u32; 32],
+    table: &[u32; 256],
+) -> u32
+    requires { ⌜ Counted n m (now source) (now sink) (now produced) (now consumed) (now q) total × (Threads n m (now sink) (now head) (now next) × Waits n m (now source) (now sink) (now produced) (now consumed) (now delay) (now q) (now base) (now fired) (now table) v) ⌝ }
+    ensures { λ r. ⌜ StartsAt n m (now (source .entry)) (now (sink .entry)) (now (produced .entry)) (now (consumed .entry)) (now (delay .entry)) (now (time .entry)) (now (q .entry)) (now (fired .entry)) (now (table .entry)) v r ⌝ }
+{
+    let mut latest = 0;
+    let mut e = wide(head[v]);
+    while e < m {
+        let needed = (fired[v] + 1) * wide32(consumed[e]);
+        let u = wide(source[e]);
+        let done = held(
+            delay[e],
+            needed,
+            wide32(produced[e]),
+            base[u],
+            wide32(time[u]),
+            table,
+        );
+        latest = later(latest, done);
+        e = wide(next[e]);
+    }
+    latest
+}
