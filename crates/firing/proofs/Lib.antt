@@ -3,3 +3,4 @@ pub mod ScanLaws
 pub mod RoundLaws
 pub mod BaseLaws
 pub mod StartLaws
+pub mod TableLaws

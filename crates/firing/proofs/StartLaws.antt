@@ -112,7 +112,7 @@ module _ {n m total : ℕ} {source sink produced consumed delay q base fired tab
         place = λ l.
             let x = (at fired v + 1) * at consumed e - 1 - at delay e in
             let few : x / at produced e < at fired u = div-lt-iff-lt-mul (c .chain .makes e h) .1 (omega (arith, w .fed e h to)) in
-            omega (arith, begins, fits, few, w .few u, c .adds, c .few);
+            omega (arith, begins, fits, few, w .few u here, c .adds, c .few);
         low = omega (arith, begins, fits, c .adds, c .few);
         starts = w .starts;
       }

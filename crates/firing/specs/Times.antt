@@ -43,7 +43,7 @@ pub record Waits (n m : ℕ) (source sink produced consumed delay q base fired t
   pub here : v < n
   pub begins : Bases n q base
   pub delays : (e : ℕ) → at delay e < 2 ^ 30
-  pub few : (u : ℕ) → at fired u ≤ at q u
+  pub few : (u : ℕ) → u < n → at fired u ≤ at q u
   pub left : at fired v < at q v
   pub fed : Fed m source sink produced consumed delay fired v
   pub starts : (k : ℕ) → at table k ≤ 16777216

@@ -11,6 +11,7 @@ pub use round::fire_round;
 pub use scan::ready;
 pub use thread::threads;
 pub use times::bases;
+pub use times::time_table;
 
 // The lowest queue into each station, and behind each queue the next one into the same station; m where there is none.
 pub struct Threaded {

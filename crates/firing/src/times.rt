@@ -1,11 +1,11 @@
 // The time table.
 ghost use mathlib.Core.Path.{_≡_};
-ghost use Prim.Native.Nat.{_≤_, _<_, max};
+ghost use Prim.Native.Nat.{ℕ, _≤_, _<_, _^_, max};
 ghost use Rattle.lists.specs.Front.{at};
 ghost use Rattle.dataflow.specs.Counts.{sum};
 ghost use Rattle.firing.specs.Into.{Threads};
 ghost use Rattle.firing.specs.Round.{Counted};
-ghost use Rattle.firing.specs.Times.{Bases, HoldsUp, HeldSmall, Waits, StartsAt};
+ghost use Rattle.firing.specs.Times.{Bases, HoldsUp, HeldSmall, Waits, StartsAt, Ordered, Tabled};
 use crate::wide;
 use crate::wide32;
 
@@ -79,4 +79,53 @@ fn start_of(
         e = wide(next[e]);
     }
     latest
+}
+
+// The start of every copy of a round that can be fired in the order of the list. One step for each copy and for each queue into it.
+pub fn time_table(
+    n: usize,
+    m: usize,
+    total: usize,
+    source: &[u16; 64],
+    sink: &[u16; 64],
+    produced: &[u16; 64],
+    consumed: &[u16; 64],
+    delay: &[u32; 64],
+    head: &[u16; 32],
+    next: &[u16; 64],
+    q: &[u32; 32],
+    base: &[u32; 33],
+    time: &[u16; 32],
+    list: &[u16; 256],
+) -> [u32; 256]
+    requires { ⌜ Counted n m (now source) (now sink) (now produced) (now consumed) (now q) total × (Threads n m (now sink) (now head) (now next) × (Bases n (now q) (now base) × (((e : ℕ) → at (now delay) e < 2 ^ 30) × Ordered n m (now source) (now sink) (now produced) (now consumed) (now delay) (now time) (now q) total (now list)))) ⌝ }
+    ensures { λ r. ⌜ Tabled n m (now (source .entry)) (now (sink .entry)) (now (produced .entry)) (now (consumed .entry)) (now (delay .entry)) (now (time .entry)) (now (q .entry)) total r ⌝ }
+{
+    let mut table = [0u32; 256];
+    let mut fired = [0u32; 32];
+    for k in 0..total {
+        let v = wide(list[k]);
+        let start = start_of(
+            n,
+            m,
+            total,
+            v,
+            source,
+            sink,
+            produced,
+            consumed,
+            delay,
+            head,
+            next,
+            q,
+            base,
+            time,
+            &fired,
+            &table,
+        );
+        let place = (base[v] + fired[v]) as usize;
+        table[place] = start;
+        fired[v] = fired[v] + 1;
+    }
+    table
 }
