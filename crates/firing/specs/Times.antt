@@ -2,7 +2,7 @@
 use Prim.Native.Nat.{ℕ, _+_, _-_, _*_, _/_, _≤_, _<_, _^_}
 use mathlib.Core.Path.{_≡_}
 use mathlib.Core.List.{List}
-use lib.ListN.{take}
+use lib.ListN.{take, length}
 use Rattle.lists.specs.Front.{at}
 use Rattle.dataflow.specs.Counts.{sum}
 use Rattle.dataflow.specs.Runs.{initially, after, Run}
@@ -18,6 +18,7 @@ pub record Bases (n : ℕ) (q base : List ℕ) : Type 0 where
 
 -- the list fires one whole round: no queue runs short, and each station fires as often as its count
 pub record Ordered (n m : ℕ) (source sink produced consumed delay time q : List ℕ) (total : ℕ) (list : List ℕ) : Type 0 where
+  pub long : total ≤ length list
   pub run : Run (netOf n m source sink produced consumed time q) (initially (netOf n m source sink produced consumed time q) (delaysOf m delay)) (take total list)
   pub whole : (v : ℕ) → v < n → after (netOf n m source sink produced consumed time q) (initially (netOf n m source sink produced consumed time q) (delaysOf m delay)) (take total list) .fired v ≡ at q v
 
