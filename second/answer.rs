@@ -1,11 +1,19 @@
 //! Answers a question stream. It is written from the papers alone, so that the library's answers
 //! can be compared with it byte for byte.
 
+mod apart;
+mod balance;
+mod big;
+mod copies;
 mod fields;
+mod period;
+mod plan;
 mod read;
+mod ready;
 mod refusal;
 mod sheet;
 mod stream;
+mod stuck;
 mod write;
 
 use std::io::{self, Read, Write};
@@ -33,6 +41,7 @@ fn answer(question: &Question) -> Option<String> {
         return None;
     }
     match question.kind {
+        1 => Some(plan::answer(question.body)),
         3 => Some(read::answer(question.body)),
         4 => write::answer(question.body),
         _ => None,

@@ -41,7 +41,7 @@ fn lengths(stream: &mut Stream) {
 }
 
 /// The zero field, and each byte of both offsets one up and one down.
-fn layout_edits() -> Vec<Draft> {
+pub fn layout_edits() -> Vec<Draft> {
     let base = edges::base();
     let mut drafts: Vec<Draft> = [1, 256].map(|zero| Draft { zero, ..base.clone() }).to_vec();
     for byte in 0..4 {

@@ -2,13 +2,20 @@
 //! for every seed, then a random part. The last of the COUNT questions is cut off in its middle.
 
 mod ask_malformed;
+mod ask_plan;
 mod ask_read;
 mod ask_write;
+mod balanced;
 mod bench_rows;
 mod damage;
 mod draft;
 mod edges;
+mod islands;
+mod loops;
+mod paths;
 mod random;
+mod rates;
+mod shapes;
 
 use random::Random;
 use std::io::{self, Write};
@@ -60,6 +67,7 @@ fn stream(seed: u64, count: usize) -> Vec<u8> {
     let mut stream = Stream { bytes: Vec::new(), left: count - 1 };
     ask_read::systematic(&mut stream);
     ask_write::systematic(&mut stream);
+    ask_plan::systematic(&mut stream);
     ask_malformed::systematic(&mut stream);
     while stream.left > 0 {
         random_question(&mut random, &mut stream);
@@ -69,17 +77,17 @@ fn stream(seed: u64, count: usize) -> Vec<u8> {
 }
 
 fn random_question(random: &mut Random, stream: &mut Stream) {
-    if random.one_in(2) {
-        stream.ask(3, &ask_read::random_body(random));
-    } else {
-        stream.ask(4, &ask_write::random_body(random));
+    match random.below(4) {
+        0 => stream.ask(3, &ask_read::random_body(random)),
+        1 => stream.ask(4, &ask_write::random_body(random)),
+        _ => stream.ask(1, &ask_plan::random_body(random)),
     }
 }
 
 /// The beginning of a question: a part of its head, or its head and less body than that tells of.
 fn cut_question(random: &mut Random) -> Vec<u8> {
     let body = ask_read::random_valid_body(random);
-    let mut bytes = question(*random.pick(&[3, 4]), &body);
+    let mut bytes = question(*random.pick(&[1, 3, 4]), &body);
     match random.below(4) {
         0 | 1 => bytes.truncate(1 + random.below(4)),
         2 => bytes.truncate(5 + random.below(body.len())),

@@ -7,6 +7,9 @@ pub enum Refusal {
     Layout,
     /// Holds the lowest queue with a bad field.
     Field(usize),
+    Apart,
+    CountsFail,
+    Stuck,
     Room,
 }
 
@@ -18,6 +21,9 @@ pub fn line(refusal: &Refusal) -> String {
         Refusal::Counts => (3, "counts", 0),
         Refusal::Layout => (4, "layout", 0),
         Refusal::Field(queue) => (5, "field", *queue),
+        Refusal::Apart => (6, "apart", 0),
+        Refusal::CountsFail => (7, "counts-fail", 0),
+        Refusal::Stuck => (8, "stuck", 0),
         Refusal::Room => (11, "room", 0),
     };
     format!("refused {number} {word} place {place}\n")

@@ -1,7 +1,9 @@
 -- A chain of stations as the planner's routines are lent it: n stations, m queues, and a column for each field.
-use Prim.Native.Nat.{ℕ, _≤_, _<_}
+use Prim.Native.Nat.{ℕ, _*_, _≤_, _<_}
+use mathlib.Core.Path.{_≡_}
 use mathlib.Core.List.{List}
 use Rattle.lists.specs.Front.{at}
+use Rattle.dataflow.specs.Counts.{sum}
 use Rattle.dataflow.specs.Sheet.{Sheet}
 
 -- the sheet of these columns; where an argument plays no part it is [] or 0
@@ -29,3 +31,12 @@ pub record Chain (n m : ℕ) (source sink produced consumed : List ℕ) : Type 0
   pub makes-most : (e : ℕ) → e < m → at produced e ≤ 64
   pub takes : (e : ℕ) → e < m → 1 ≤ at consumed e
   pub takes-most : (e : ℕ) → e < m → at consumed e ≤ 64
+
+-- a chain with counts that balance it, total in all
+pub record CountedChain (n m : ℕ) (source sink produced consumed q : List ℕ) (total : ℕ) : Type 0 where
+  pub chain : Chain n m source sink produced consumed
+  pub positive : (v : ℕ) → v < n → 1 ≤ at q v
+  pub beyond : (v : ℕ) → n ≤ v → at q v ≡ 0
+  pub balanced : (e : ℕ) → e < m → at q (at source e) * at produced e ≡ at q (at sink e) * at consumed e
+  pub adds : sum n (at q) ≡ total
+  pub few : total ≤ 256

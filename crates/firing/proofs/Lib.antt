@@ -4,3 +4,4 @@ pub mod RoundLaws
 pub mod BaseLaws
 pub mod StartLaws
 pub mod TableLaws
+pub mod EndLaws

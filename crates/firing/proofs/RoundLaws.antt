@@ -19,9 +19,9 @@ use Rattle.dataflow.proofs.SumLaws.{sum-above}
 use Rattle.dataflow.proofs.SheetLaws.{sheet-sound}
 use Rattle.dataflow.proofs.StallLaws.{stuck-of}
 use Rattle.dataflow.proofs.PrefixLaws.{FedBy, firedBy, fired-more, Prefix, none, prefix-next, prefix-few, prefix-whole, prefix-stalled}
-use Rattle.chain.specs.Chain.{Chain, sheetOf}
+use Rattle.chain.specs.Chain.{Chain, sheetOf, CountedChain}
 use Rattle.firing.specs.Scan.{Fed, Can, LowestThatCan}
-use Rattle.firing.specs.Round.{netOf, delaysOf, Counted}
+use Rattle.firing.specs.Round.{netOf, delaysOf}
 
 -- a new list of 0 is 0 everywhere
 pub zeros : (size v : ℕ) → at (replicate size 0) v ≡ 0
@@ -46,7 +46,7 @@ module _ (n m : ℕ) (source sink produced consumed delay q : List ℕ) where
     pub is : (time : List ℕ) (v : ℕ) → at fired v ≡ firedBy (G time) D (take k list) v
     pub rest : (i : ℕ) → k ≤ i → at list i ≡ 0
 
-  pub sound : {total : ℕ} → Counted n m source sink produced consumed q total → (time : List ℕ) → Sound (G time)
+  pub sound : {total : ℕ} → CountedChain n m source sink produced consumed q total → (time : List ℕ) → Sound (G time)
   sound c time =
       sheet-sound (sheetOf n m source sink produced consumed [] time) q
       (record {
@@ -74,7 +74,7 @@ module _ (n m : ℕ) (source sink produced consumed delay q : List ℕ) where
 
   module _ {list fired : List ℕ} {k : ℕ} (z : SoFar list fired k) where
     -- no station has fired more often than its count, which is small
-    pub fired-few : {total : ℕ} → Counted n m source sink produced consumed q total → (v : ℕ) → at fired v ≤ 256
+    pub fired-few : {total : ℕ} → CountedChain n m source sink produced consumed q total → (v : ℕ) → at fired v ≤ 256
     fired-few c v =
         let few : at fired v ≤ at q v = omega (arith, z .is [] v, prefix-few (G []) D (at q) (z .prefix []) v) in
         ⊎-elim (λ l. omega (arith, sum-above n (at q) v l, c .adds, c .few)) (λ l. omega (arith, c .beyond v l)) (lt-or-ge v n)
@@ -102,7 +102,7 @@ module _ (n m : ℕ) (source sink produced consumed delay q : List ℕ) where
         front = rw add-one (take-suc-set list k v (omega (arith, z .long)))
 
     -- no station can, and some are left
-    pub round-stuck : {total : ℕ} → Counted n m source sink produced consumed q total → k < total → LowestThatCan (Can m source sink produced consumed delay q fired) n n → (time : List ℕ) → Stuck (G time) D
+    pub round-stuck : {total : ℕ} → CountedChain n m source sink produced consumed q total → k < total → LowestThatCan (Can m source sink produced consumed delay q fired) n n → (time : List ℕ) → Stuck (G time) D
     round-stuck {total} c h low time =
         let l = take k list in
         let s = prefix-stalled (G time) D (at q) (sound c time) (z .prefix time) (omega (arith, length-take k list, z .long, c .adds, c .few))
@@ -114,5 +114,5 @@ module _ (n m : ℕ) (source sink produced consumed delay q : List ℕ) where
         station w a = ⊎-elim (λ l. l) (λ l. absurd (omega (arith, c .beyond w l))) (lt-or-ge w n)
 
   -- as many firings as the counts
-  pub round-whole : {list fired : List ℕ} {total : ℕ} → SoFar list fired total → Counted n m source sink produced consumed q total → (time : List ℕ) → RoundList (G time) D (take total list)
+  pub round-whole : {list fired : List ℕ} {total : ℕ} → SoFar list fired total → CountedChain n m source sink produced consumed q total → (time : List ℕ) → RoundList (G time) D (take total list)
   round-whole {list} {total = total} z c time = prefix-whole (G time) D (at q) (z .prefix time) (omega (arith, length-take total list, z .long, c .adds, c .few))

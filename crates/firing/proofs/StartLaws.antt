@@ -12,7 +12,8 @@ use Rattle.dataflow.specs.Times.{entry}
 use Rattle.dataflow.proofs.SumLaws.{sum-above, sum-before}
 use Rattle.dataflow.proofs.LastLaws.{MakesLast, last-once, HeldByLast, LastStart}
 use Rattle.firing.specs.Into.{FirstInto}
-use Rattle.firing.specs.Round.{netOf, delaysOf, Counted}
+use Rattle.chain.specs.Chain.{CountedChain}
+use Rattle.firing.specs.Round.{netOf, delaysOf}
 use Rattle.firing.specs.Times.{HoldsUp, HeldSmall, Waits, StartsAt}
 
 -- the firing that makes the last token, by a division
@@ -94,7 +95,7 @@ module _ (n m : ℕ) (source sink produced consumed delay time q fired table : L
             (λ a. omega (arith, up .there a))
             (lt-or-ge (at delay e) ((at fired v + 1) * at consumed e))
 
-module _ {n m total : ℕ} {source sink produced consumed delay q base fired table : List ℕ} {v : ℕ} (c : Counted n m source sink produced consumed q total)
+module _ {n m total : ℕ} {source sink produced consumed delay q base fired table : List ℕ} {v : ℕ} (c : CountedChain n m source sink produced consumed q total)
     (w : Waits n m source sink produced consumed delay q base fired table v) where
   -- counts, and so firings, are few
   pub count-few : (u : ℕ) → u < n → at q u ≤ 256

@@ -23,7 +23,8 @@ use Rattle.dataflow.proofs.TakenLaws.{after-append, run-front, run-rest, run-re
 use Rattle.dataflow.proofs.PrefixLaws.{firedBy, fired-more}
 use Rattle.dataflow.proofs.RankLaws.{round-ranked}
 use Rattle.dataflow.proofs.LastLaws.{MakesLast, LastStart, last-same, last-table}
-use Rattle.firing.specs.Round.{netOf, delaysOf, Counted}
+use Rattle.chain.specs.Chain.{CountedChain}
+use Rattle.firing.specs.Round.{netOf, delaysOf}
 use Rattle.firing.specs.Times.{Bases, Ordered, Tabled, Waits, StartsAt}
 use Rattle.firing.proofs.RoundLaws.{zeros, sound, by-fed}
 
@@ -118,7 +119,7 @@ module _ (n m : ℕ) (source sink produced consumed delay time q : List ℕ) (to
     fed-here : (e : Below m) → at sink (e .0) ≡ v → suc (F v) * at consumed (e .0) ≤ D e + F (at source (e .0)) * at produced (e .0)
     fed-here = ready-counts G D (after G (initially G D) (take k list)) (holds G D run-before) v (run-ready G run-here)
 
-    module _ (c : Counted n m source sink produced consumed q total) {table fired : List ℕ} (z : TableSoFar table fired k) where
+    module _ (c : CountedChain n m source sink produced consumed q total) {table fired : List ℕ} (z : TableSoFar table fired k) where
       -- what the start of the next copy asks for
       pub waits : {base : List ℕ} → Bases n q base → ((e : ℕ) → at delay e < 2 ^ 30) → Waits n m source sink produced consumed delay q base fired table v
       waits b small = record {
@@ -131,7 +132,7 @@ module _ (n m : ℕ) (source sink produced consumed delay time q : List ℕ) (to
         starts = λ j. omega (arith, z .bound j, mul-le-mul-right 65535 (sized c));
       }
         where
-          sized : Counted n m source sink produced consumed q total → k ≤ 256
+          sized : CountedChain n m source sink produced consumed q total → k ≤ 256
           sized c = omega (arith, c .few)
 
       -- where the start of the next copy goes
@@ -208,13 +209,14 @@ module _ (n m : ℕ) (source sink produced consumed delay time q : List ℕ) (to
             bound j (no x) = rw (getD-set-other table place j r 0 x) (omega (arith, z .bound j))
 
   -- the whole list is done
-  pub all-found : Counted n m source sink produced consumed q total → Ordered n m source sink produced consumed delay time q total list → {table fired : List ℕ} → TableSoFar table fired total → Tabled n m source sink produced consumed delay time q total table
+  pub all-found : CountedChain n m source sink produced consumed q total → Ordered n m source sink produced consumed delay time q total list → {table fired : List ℕ} → TableSoFar table fired total → Tabled n m source sink produced consumed delay time q total table
   all-found c o {table} z = record {
     times = last-table G (sound n m source sink produced consumed delay q c time) D _
         (round-ranked G (sound n m source sink produced consumed delay q c time) D (record { order = take total list; run = o .run; all-fired = o .whole }))
         (entry (at q) table)
         (λ v i copy. z .done v i (copy .low) (omega (arith, copy .high, z .is v, all v copy)));
     rest = z .rest;
+    starts = λ k. omega (arith, z .bound k, mul-le-mul-right 65535 (c .few));
   }
     where
       all : (v : ℕ) {i : ℕ} → Copy G v i → firedBy G D (take total list) v ≡ at q v

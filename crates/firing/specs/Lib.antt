@@ -2,3 +2,4 @@ pub mod Into
 pub mod Scan
 pub mod Round
 pub mod Times
+pub mod Late

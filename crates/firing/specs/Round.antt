@@ -10,7 +10,7 @@ use Rattle.dataflow.specs.Counts.{sum}
 use Rattle.dataflow.specs.Sheet.{Below, net}
 use Rattle.dataflow.specs.Lists.{RoundList}
 use Rattle.dataflow.specs.Stuck.{Stuck}
-use Rattle.chain.specs.Chain.{Chain, sheetOf}
+use Rattle.chain.specs.Chain.{sheetOf}
 use Rattle.firing.specs.declared.Fired.{Fired}
 
 -- the net of a chain with stations of these times
@@ -20,15 +20,6 @@ netOf n m source sink produced consumed time q = net (sheetOf n m source sink pr
 -- a column of delays, by queues
 abbrev pub delaysOf : (m : ℕ) (delay : List ℕ) → Below m → ℕ
 delaysOf m delay e = at delay (e .0)
-
--- a chain with counts that balance it, total in all
-pub record Counted (n m : ℕ) (source sink produced consumed q : List ℕ) (total : ℕ) : Type 0 where
-  pub chain : Chain n m source sink produced consumed
-  pub positive : (v : ℕ) → v < n → 1 ≤ at q v
-  pub beyond : (v : ℕ) → n ≤ v → at q v ≡ 0
-  pub balanced : (e : ℕ) → e < m → at q (at source e) * at produced e ≡ at q (at sink e) * at consumed e
-  pub adds : sum n (at q) ≡ total
-  pub few : total ≤ 256
 
 -- the round list and 0 behind it, or stuck and nothing but 0; the times of the stations play no part
 pub record Rounds (n m : ℕ) (source sink produced consumed delay q : List ℕ) (total : ℕ) (r : Fired) : Type 0 where

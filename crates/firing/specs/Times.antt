@@ -22,10 +22,11 @@ pub record Ordered (n m : ℕ) (source sink produced consumed delay time q : Lis
   pub run : Run (netOf n m source sink produced consumed time q) (initially (netOf n m source sink produced consumed time q) (delaysOf m delay)) (take total list)
   pub whole : (v : ℕ) → v < n → after (netOf n m source sink produced consumed time q) (initially (netOf n m source sink produced consumed time q) (delaysOf m delay)) (take total list) .fired v ≡ at q v
 
--- the time table, and 0 behind it
+-- the time table, and 0 behind it; every start is small
 pub record Tabled (n m : ℕ) (source sink produced consumed delay time q : List ℕ) (total : ℕ) (table : List ℕ) : Type 0 where
   pub times : TimeTable (netOf n m source sink produced consumed time q) (delaysOf m delay) (entry (at q) table)
   pub rest : (k : ℕ) → total ≤ k → at table k ≡ 0
+  pub starts : (k : ℕ) → at table k ≤ 16777216
 
 -- what a queue holds a copy up for: the finish of the maker of the last of the needed tokens, where it is made in this round
 pub record HoldsUp (delay needed produced base time : ℕ) (table : List ℕ) (r : ℕ) : Type 0 where

@@ -1,12 +1,15 @@
 // Firing a round, and the time table of its copies.
 ghost use mathlib.Core.Path.{_≡_};
-ghost use Prim.Native.Nat.{_<_};
+ghost use Prim.Native.Nat.{_<_, max};
 
+mod late;
 mod round;
 mod scan;
 mod thread;
 mod times;
 
+pub use late::late_counts;
+pub use late::latest_end;
 pub use round::fire_round;
 pub use scan::ready;
 pub use thread::threads;
@@ -35,4 +38,10 @@ pub(crate) fn wide32(x: u16) -> u32
     ensures { λ r. ⌜ (r ≡ x) × (r < 65536) ⌝ }
 {
     x as u32
+}
+
+pub(crate) fn later(a: u32, b: u32) -> u32
+    ensures { λ r. ⌜ r ≡ max a b ⌝ }
+{
+    if a < b { b } else { a }
 }

@@ -2,7 +2,8 @@
 ghost use Prim.Native.Nat.{ℕ, _<_, _^_};
 ghost use Rattle.lists.specs.Front.{at};
 ghost use Rattle.firing.specs.Into.{Threads};
-ghost use Rattle.firing.specs.Round.{Counted, Rounds};
+ghost use Rattle.chain.specs.Chain.{CountedChain};
+ghost use Rattle.firing.specs.Round.{Rounds};
 use crate::Fired;
 use crate::scan::ready;
 
@@ -20,7 +21,7 @@ pub fn fire_round(
     next: &[u16; 64],
     q: &[u32; 32],
 ) -> Fired
-    requires { ⌜ Counted n m (now source) (now sink) (now produced) (now consumed) (now q) total × (Threads n m (now sink) (now head) (now next) × ((e : ℕ) → at (now delay) e < 2 ^ 30)) ⌝ }
+    requires { ⌜ CountedChain n m (now source) (now sink) (now produced) (now consumed) (now q) total × (Threads n m (now sink) (now head) (now next) × ((e : ℕ) → at (now delay) e < 2 ^ 30)) ⌝ }
     ensures { λ r. ⌜ Rounds n m (now (source .entry)) (now (sink .entry)) (now (produced .entry)) (now (consumed .entry)) (now (delay .entry)) (now (q .entry)) total r ⌝ }
 {
     let mut list = [0u16; 256];

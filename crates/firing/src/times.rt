@@ -1,11 +1,13 @@
 // The time table.
 ghost use mathlib.Core.Path.{_≡_};
-ghost use Prim.Native.Nat.{ℕ, _≤_, _<_, _^_, max};
+ghost use Prim.Native.Nat.{ℕ, _≤_, _<_, _^_};
 ghost use Rattle.lists.specs.Front.{at};
 ghost use Rattle.dataflow.specs.Counts.{sum};
 ghost use Rattle.firing.specs.Into.{Threads};
-ghost use Rattle.firing.specs.Round.{Counted};
+ghost use Rattle.chain.specs.Chain.{CountedChain};
+
 ghost use Rattle.firing.specs.Times.{Bases, HoldsUp, HeldSmall, Waits, StartsAt, Ordered, Tabled};
+use crate::later;
 use crate::wide;
 use crate::wide32;
 
@@ -19,12 +21,6 @@ pub fn bases(n: usize, q: &[u32; 32]) -> [u32; 33]
         base[v + 1] = base[v] + q[v];
     }
     base
-}
-
-fn later(a: u32, b: u32) -> u32
-    ensures { λ r. ⌜ r ≡ max a b ⌝ }
-{
-    if a < b { b } else { a }
 }
 
 // How long one queue holds a copy up that needs this many tokens of it in all.
@@ -59,7 +55,7 @@ fn start_of(
     fired: &[u32; 32],
     table: &[u32; 256],
 ) -> u32
-    requires { ⌜ Counted n m (now source) (now sink) (now produced) (now consumed) (now q) total × (Threads n m (now sink) (now head) (now next) × Waits n m (now source) (now sink) (now produced) (now consumed) (now delay) (now q) (now base) (now fired) (now table) v) ⌝ }
+    requires { ⌜ CountedChain n m (now source) (now sink) (now produced) (now consumed) (now q) total × (Threads n m (now sink) (now head) (now next) × Waits n m (now source) (now sink) (now produced) (now consumed) (now delay) (now q) (now base) (now fired) (now table) v) ⌝ }
     ensures { λ r. ⌜ StartsAt n m (now (source .entry)) (now (sink .entry)) (now (produced .entry)) (now (consumed .entry)) (now (delay .entry)) (now (time .entry)) (now (q .entry)) (now (fired .entry)) (now (table .entry)) v r ⌝ }
 {
     let mut latest = 0;
@@ -98,7 +94,7 @@ pub fn time_table(
     time: &[u16; 32],
     list: &[u16; 256],
 ) -> [u32; 256]
-    requires { ⌜ Counted n m (now source) (now sink) (now produced) (now consumed) (now q) total × (Threads n m (now sink) (now head) (now next) × (Bases n (now q) (now base) × (((e : ℕ) → at (now delay) e < 2 ^ 30) × Ordered n m (now source) (now sink) (now produced) (now consumed) (now delay) (now time) (now q) total (now list)))) ⌝ }
+    requires { ⌜ CountedChain n m (now source) (now sink) (now produced) (now consumed) (now q) total × (Threads n m (now sink) (now head) (now next) × (Bases n (now q) (now base) × (((e : ℕ) → at (now delay) e < 2 ^ 30) × Ordered n m (now source) (now sink) (now produced) (now consumed) (now delay) (now time) (now q) total (now list)))) ⌝ }
     ensures { λ r. ⌜ Tabled n m (now (source .entry)) (now (sink .entry)) (now (produced .entry)) (now (consumed .entry)) (now (delay .entry)) (now (time .entry)) (now (q .entry)) total r ⌝ }
 {
     let mut table = [0u32; 256];

@@ -10,7 +10,7 @@ use Rattle.firing.proofs.times.start_of.Tie as tie
 use Rattle.firing.proofs.times.start_of.Reads as reads
 use Rattle.firing.proofs.times.start_of.Lts as lts
 use Rattle.firing.proofs.times.held.Reads as held-reads
-use Rattle.firing.proofs.times.later.Reads as later-reads
+use Rattle.firing.proofs.later.Reads as later-reads
 use Rattle.firing.proofs.wide.Reads as wide-reads
 use Rattle.firing.proofs.wide32.Reads as wide32-reads
 

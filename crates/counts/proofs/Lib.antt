@@ -1,0 +1,7 @@
+pub mod StoreLaws
+pub mod JoinLaws
+pub mod MarkLaws
+pub mod RateLaws
+pub mod RaiseLaws
+pub mod RowLaws
+pub mod Unique

@@ -1,0 +1,55 @@
+-- Counts, rates and tokens on one queue.
+use Prim.Native.Nat.{ℕ, _+_, _-_, _*_, _/_, _≤_, _<_}
+use mathlib.Core.Path.{_≡_, sym}
+use mathlib.Core.List.{List}
+use native.Mathlib.Nat.{mul-le-mul-left, mul-le-mul-right, lt-of-mul-lt-mul-right, div-mul-le-self, lt-div-mul-add}
+use native.Mathlib.Omega.{arith}
+use lib.ListN.{length, set, length-set}
+use Rattle.lists.specs.Front.{at}
+use Rattle.chain.specs.Chain.{Chain}
+use Rattle.counts.specs.Raising.{QueueFits, Ceiling, Raises, Ones}
+use Rattle.counts.proofs.StoreLaws.{after-store}
+
+pub queue-fits : {n m : ℕ} {source sink produced consumed : List ℕ} → Chain n m source sink produced consumed → (e : ℕ) → e < m → QueueFits source sink produced consumed e
+queue-fits C e h =
+    record {
+      leaves = record { queue = omega (arith, C .few-queues); is-station = omega (arith, C .leaves e h, C .few); some = C .makes e h; most = C .makes-most e h };
+      enters = record { queue = omega (arith, C .few-queues); is-station = omega (arith, C .enters e h, C .few); some = C .takes e h; most = C .takes-most e h };
+    }
+
+-- one more station has its 1
+pub ones-more : (v x : ℕ) (q : List ℕ) → v < 32 → x ≡ 1 → Ones v q → Ones (v + 1) (set q v x)
+ones-more v x q h e O =
+    let l : v < length q = omega (arith, O .long) in
+    record {
+      long = simp length-set (O .long);
+      one = after-store q v x l (λ w y. w < v + 1 → y ≡ 1) (λ k. e) (λ w d k. O .one w (omega arith));
+      beyond = after-store q v x l (λ w y. v + 1 ≤ w → y ≡ 0) (λ k. absurd (omega arith)) (λ w d k. O .beyond w (omega arith));
+    }
+
+pub tokens-small : {count rate : ℕ} → count ≤ 256 → rate ≤ 64 → count * rate ≤ 16384
+tokens-small {count} h k = let a = mul-le-mul-left count k in omega arith
+
+pub ceiling-is : (tokens rate : ℕ) → 1 ≤ rate → Ceiling tokens rate ((tokens + rate - 1) / rate)
+ceiling-is tokens rate h =
+    record {
+      enough = omega (arith, lt-div-mul-add {a = tokens + rate - 1} h);
+      least = λ x k.
+          let below = lt-of-mul-lt-mul-right rate {m = (tokens + rate - 1) / rate} {n = x + 1} (omega (arith, div-mul-le-self (tokens + rate - 1) rate)) in
+          omega arith;
+    }
+
+module _ {source sink produced consumed q : List ℕ} {e station count made taken : ℕ} where
+  -- the source makes fewer tokens than the sink takes
+  pub raise-source : made ≡ at q (at source e) * at produced e → taken ≡ at q (at sink e) * at consumed e → made < taken → station ≡ at source e → Ceiling taken (at produced e) count → Raises source sink produced consumed q e station count
+  raise-source a b short s C =
+      record {
+        end = λ n h k. omega arith;
+        more = rw s (lt-of-mul-lt-mul-right (at produced e) (omega (arith, C .enough)));
+        asked = λ x h k l. rw s (C .least (x (at source e)) (omega (arith, mul-le-mul-right (at consumed e) l)));
+      }
+
+-- the ends of a queue change places
+pub raise-other : {source sink produced consumed q : List ℕ} {e station count : ℕ} → Raises sink source consumed produced q e station count → Raises source sink produced consumed q e station count
+raise-other R =
+    record { end = λ n h k. R .end n k h; more = R .more; asked = λ x h k l. R .asked x (sym h) l k }

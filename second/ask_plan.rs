@@ -1,0 +1,115 @@
+//! Questions of kind 1: sheets to plan.
+
+use crate::draft::{Draft, CONSUMED, DELAY};
+use crate::random::Random;
+use crate::shapes::{chained, joined};
+use crate::{ask_read, balanced, bench_rows, damage, edges, islands, loops, paths, rates, Stream};
+use std::collections::HashSet;
+
+/// Sheets that several groups hold are asked once.
+pub fn systematic(stream: &mut Stream) {
+    let mut sheets: Vec<Vec<u8>> = bench_rows::all().iter().map(Draft::sheet).collect();
+    sheets.extend(lengths());
+    let groups = [
+        edges::header_edits(),
+        edges::sized_edits(),
+        ask_read::layout_edits(),
+        field_edits(),
+        several_refusals(),
+        islands::all(),
+        rates::all(),
+        loops::all(),
+        paths::all(),
+    ];
+    sheets.extend(groups.iter().flatten().map(Draft::sheet));
+    let mut asked = HashSet::new();
+    for sheet in &sheets {
+        if asked.insert(sheet) {
+            stream.ask(1, sheet);
+        }
+    }
+}
+
+/// The sample and its beginnings, then more bytes behind it, and around the longest sheet.
+fn lengths() -> Vec<Vec<u8>> {
+    let mut bytes = bench_rows::sample().sheet();
+    bytes.resize(60, 0);
+    let mut longest = Draft::sized(32, 64).sheet();
+    longest.resize(2_000, 0);
+    let around_sample = (0..=60).map(|length| bytes[..length].to_vec());
+    let around_longest = [787, 788, 789, 790, 2_000].map(|length| longest[..length].to_vec());
+    around_sample.chain(around_longest).collect()
+}
+
+/// One queue field at or beside a limit, in each queue of a sheet that is ready without the edit.
+fn field_edits() -> Vec<Draft> {
+    let base = joined(2, vec![[0, 1, 64, 64, 0], [1, 0, 64, 64, 4_095], [1, 1, 1, 1, 1]]);
+    let mut drafts = vec![base.clone()];
+    for place in 0..3 {
+        for field in 0..DELAY {
+            drafts.extend([0, 1, 2, 64, 65].map(|v| edges::edited(base.clone(), place, field, v)));
+        }
+        drafts.extend([0, 64, 4_096].map(|v| edges::edited(base.clone(), place, DELAY, v)));
+    }
+    drafts
+}
+
+/// Sheets with every two of refusals 4 to 8 at once, of which the first is given.
+fn several_refusals() -> Vec<Draft> {
+    let apart = joined(3, vec![[0, 1, 1, 1, 0]]);
+    let unbalanced = joined(2, vec![[0, 1, 1, 1, 0], [0, 1, 1, 2, 0]]);
+    let stuck = joined(2, vec![[0, 1, 1, 1, 0], [1, 0, 1, 1, 0]]);
+    let apart_and_unbalanced = joined(3, vec![[0, 1, 1, 1, 0], [0, 1, 1, 2, 0]]);
+    let apart_and_stuck = joined(3, vec![[0, 1, 1, 1, 0], [1, 0, 1, 1, 0]]);
+    let unbalanced_and_stuck = joined(2, vec![[0, 1, 1, 1, 0], [1, 0, 1, 2, 0]]);
+    let all_three = joined(3, vec![[0, 1, 1, 1, 0], [1, 0, 1, 2, 0]]);
+    let mut drafts = Vec::new();
+    for draft in [apart, unbalanced, stuck] {
+        drafts.push(edges::edited(draft.clone(), 0, CONSUMED, 65));
+        drafts.push(Draft { station_offset: 24, ..draft.clone() });
+        drafts.push(draft);
+    }
+    drafts.extend([apart_and_unbalanced, apart_and_stuck, unbalanced_and_stuck, all_three]);
+    drafts
+}
+
+pub fn random_body(random: &mut Random) -> Vec<u8> {
+    let mut draft = match random.below(12) {
+        0 => return ask_read::random_body(random),
+        1 => random_chain(random),
+        _ => balanced::random(random),
+    };
+    if random.one_in(12) {
+        spoil(&mut draft, random);
+    }
+    if random.one_in(8) {
+        damage::perhaps_draft(&mut draft, random);
+    }
+    let mut bytes = draft.sheet();
+    if random.one_in(8) {
+        damage::perhaps_bytes(&mut bytes, random);
+    }
+    bytes
+}
+
+/// A chain of any rates, whose counts are soon immense.
+fn random_chain(random: &mut Random) -> Draft {
+    let length = if random.one_in(5) { 1 + random.below(31) } else { 1 + random.below(5) };
+    let most = *random.pick(&[2, 3, 4, 64]);
+    let mut rate = || 1 + random.below(most) as u16;
+    chained(&(0..length).map(|_| (rate(), rate())).collect::<Vec<(u16, u16)>>())
+}
+
+/// Takes a queue away, or changes one of its rates.
+fn spoil(draft: &mut Draft, random: &mut Random) {
+    if draft.queues.is_empty() {
+        return;
+    }
+    let place = random.below(draft.queues.len());
+    if random.one_in(3) {
+        draft.queues.remove(place);
+        draft.m -= 1;
+    } else {
+        draft.queues[place][2 + random.below(2)] = 1 + random.below(64) as u16;
+    }
+}

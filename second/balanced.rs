@@ -1,0 +1,153 @@
+//! Random sheets that are balanced because their counts are chosen first, with delays about as
+//! large as their loops need.
+
+use crate::draft::Draft;
+use crate::random::Random;
+use crate::shapes::{common_divisor, timed};
+
+const LARGEST_RATE: usize = 64;
+const LARGEST_DELAY: usize = 4_095;
+
+pub fn random(random: &mut Random) -> Draft {
+    let counts = random_counts(random);
+    let n = counts.len();
+    let mut queues = tree(&counts, random);
+    let more = if n > 8 { random.below(65 - queues.len()) } else { random.below(n + 4) };
+    for _ in 0..more {
+        queues.extend(queue(random.below(n), random.below(n), &counts, random));
+    }
+    let times: Vec<u16> = (0..n).map(|_| random_time(random)).collect();
+    let target = random_target(&times, random);
+    let mut draft = Draft { target, ..timed(times, queues) };
+    renumber(&mut draft, random);
+    draft
+}
+
+/// Mostly few and small counts, now and then a sum close to 256, many stations, or counts whose
+/// ratios are plain although they are large.
+fn random_counts(random: &mut Random) -> Vec<usize> {
+    match random.below(24) {
+        0 | 1 => close_to_256(random),
+        2 => (0..9 + random.below(24)).map(|_| 1 + random.below(8)).collect(),
+        3..=5 => {
+            let plain = [1, 2, 3, 4, 6, 8, 12, 16, 24, 32, 48, 96, 144];
+            (0..2 + random.below(3)).map(|_| *random.pick(&plain)).collect()
+        }
+        6..=8 => vec![1; 1 + random.below(8)],
+        _ => (0..1 + random.below(5)).map(|_| 1 + random.below(6)).collect(),
+    }
+}
+
+/// Counts to 64, the last of which brings the sum close to 256 if it can.
+fn close_to_256(random: &mut Random) -> Vec<usize> {
+    let mut counts: Vec<usize> = (0..4 + random.below(4)).map(|_| 20 + random.below(40)).collect();
+    let sum: usize = counts.iter().sum();
+    let rest = (254 + random.below(5)).saturating_sub(sum);
+    counts.push(rest.clamp(1, LARGEST_RATE));
+    counts
+}
+
+/// A queue between each station and an earlier one. A station whose count fits none before it
+/// stays alone.
+fn tree(counts: &[usize], random: &mut Random) -> Vec<[u16; 5]> {
+    let mut queues = Vec::new();
+    for station in 1..counts.len() {
+        let first = random.below(station);
+        let mut others = (0..station).map(|i| (first + i) % station);
+        queues.extend(others.find_map(|other| {
+            if random.one_in(4) {
+                queue(station, other, counts, random)
+            } else {
+                queue(other, station, counts, random)
+            }
+        }));
+    }
+    queues
+}
+
+/// A queue that the counts balance, if its rates can be small enough.
+fn queue(source: usize, sink: usize, counts: &[usize], random: &mut Random) -> Option<[u16; 5]> {
+    let common = common_divisor(counts[source], counts[sink]);
+    let (produced, consumed) = (counts[sink] / common, counts[source] / common);
+    let most = LARGEST_RATE / produced.max(consumed);
+    if most == 0 {
+        return None;
+    }
+    let times = if random.one_in(2) { 1 } else { 1 + random.below(most.min(5)) };
+    let (produced, consumed) = (times * produced, times * consumed);
+    let delay = if source < sink {
+        forward_delay(consumed, consumed * counts[sink], random)
+    } else {
+        backward_delay(produced, consumed, consumed * counts[sink], random)
+    };
+    Some([source, sink, produced, consumed, delay.min(LARGEST_DELAY)].map(|field| field as u16))
+}
+
+/// Queues to later stations close no loop by themselves and are mostly empty.
+fn forward_delay(consumed: usize, round: usize, random: &mut Random) -> usize {
+    match random.below(10) {
+        0..=4 => 0,
+        5 | 6 => random.below(2 * consumed),
+        7 => around(round, random),
+        8 => random.below(2 * round),
+        _ => random.below(LARGEST_DELAY + 1),
+    }
+}
+
+/// Queues to earlier stations and self-queues close loops: what two stations need, or a round,
+/// which is always enough, and one more or fewer.
+fn backward_delay(produced: usize, consumed: usize, round: usize, random: &mut Random) -> usize {
+    match random.below(20) {
+        0 | 1 => random.below(consumed),
+        2..=8 => around(produced + consumed - common_divisor(produced, consumed), random),
+        9..=12 => around(round, random),
+        13..=16 => consumed + random.below(round),
+        17 | 18 => round + random.below(round),
+        _ => random.below(LARGEST_DELAY + 1),
+    }
+}
+
+fn around(tokens: usize, random: &mut Random) -> usize {
+    tokens + random.below(3) - 1
+}
+
+fn random_time(random: &mut Random) -> u16 {
+    match random.below(30) {
+        0 => 0,
+        1 => 65_535,
+        2 => random.next() as u16,
+        _ => random.below(10) as u16,
+    }
+}
+
+/// Mostly between the largest time and the sum of times.
+fn random_target(times: &[u16], random: &mut Random) -> u32 {
+    let largest = times.iter().copied().max().unwrap_or(0);
+    let sum: u32 = times.iter().map(|&time| u32::from(time)).sum();
+    match random.below(12) {
+        0 => random.next() as u32,
+        1 => random.below(12) as u32,
+        _ => u32::from(largest) + random.below(1 + sum as usize) as u32,
+    }
+}
+
+/// Gives the stations other numbers and the queues another order.
+fn renumber(draft: &mut Draft, random: &mut Random) {
+    let numbers: Vec<u16> = shuffled((0..draft.n).collect(), random);
+    let before = draft.stations.clone();
+    for (station, &number) in before.into_iter().zip(&numbers) {
+        draft.stations[usize::from(number)] = station;
+    }
+    for queue in &mut draft.queues {
+        queue[0] = numbers[usize::from(queue[0])];
+        queue[1] = numbers[usize::from(queue[1])];
+    }
+    draft.queues = shuffled(std::mem::take(&mut draft.queues), random);
+}
+
+fn shuffled<T>(mut list: Vec<T>, random: &mut Random) -> Vec<T> {
+    for place in 1..list.len() {
+        list.swap(place, random.below(place + 1));
+    }
+    list
+}

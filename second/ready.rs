@@ -1,0 +1,27 @@
+//! A sheet that is ready to be planned: it has passed checks 1 to 8.
+
+use crate::apart;
+use crate::balance;
+use crate::copies::{self, Copies};
+use crate::refusal::Refusal;
+use crate::sheet::{self, Sheet};
+use crate::stuck;
+
+pub struct Ready {
+    pub sheet: Sheet,
+    pub counts: Vec<usize>,
+    pub copies: Copies,
+}
+
+pub fn read(bytes: &[u8]) -> Result<Ready, Refusal> {
+    let sheet = sheet::read(bytes)?;
+    if apart::apart(&sheet) {
+        return Err(Refusal::Apart);
+    }
+    let counts = balance::counts(&sheet).ok_or(Refusal::CountsFail)?;
+    let copies = copies::of(&sheet, &counts);
+    if stuck::stuck(&copies) {
+        return Err(Refusal::Stuck);
+    }
+    Ok(Ready { sheet, counts, copies })
+}
