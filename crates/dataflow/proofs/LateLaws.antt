@@ -22,6 +22,12 @@ many-once k′ (this h p) (other h′ n) = absurd (n p)
 many-once k′ (other h n) (this h′ p) = absurd (n p)
 many-once k′ (other h n) (other h′ n′) = many-once _ h h′
 
+-- it is enough to know P of the numbers 1 to m
+pub many-same : {P Q : ℕ → Type 0} {m k : ℕ} → ((i : ℕ) → 1 ≤ i → i ≤ m → P i → Q i) → ((i : ℕ) → 1 ≤ i → i ≤ m → Q i → P i) → HowMany P m k → HowMany Q m k
+many-same to from none = none
+many-same to from (this {m = m} h p) = this (many-same (λ i a b. to i a (omega arith)) (λ i a b. from i a (omega arith)) h) (to (suc m) (omega arith) (omega arith) p)
+many-same to from (other {m = m} h n) = other (many-same (λ i a b. to i a (omega arith)) (λ i a b. from i a (omega arith)) h) (λ x. n (from (suc m) (omega arith) (omega arith) x))
+
 unfoldable pub many-dec : (P : ℕ → Type 0) → ((i : ℕ) → Dec (P i)) → (m : ℕ) → (k : ℕ) × HowMany P m k
 many-dec P w zero = (0, none)
 many-dec P w (suc m) = go (many-dec P w m) (w (suc m))

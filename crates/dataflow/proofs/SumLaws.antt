@@ -1,6 +1,6 @@
 -- Sums over the numbers below n.
 use mathlib.Core.Path.{_≡_, refl}
-use Prim.Native.Nat.{ℕ, zero, suc, _+_, _*_, _≤_, _<_}
+use Prim.Native.Nat.{ℕ, zero, suc, _+_, _-_, _*_, _≤_, _<_}
 use native.Mathlib.Omega.{arith}
 use native.Mathlib.Decide.{ℕ-discrete, decLt}
 use Rattle.dataflow.specs.Counts.{sum}
@@ -49,3 +49,12 @@ sum-tight n f g le e v h = go (decLt (f v) (g v))
     go : Dec (f v < g v) → f v ≡ g v
     go (yes l) = absurd (omega (arith, sum-lt n f g le v h l))
     go (no l) = omega (arith, le v)
+
+-- each number below the sum stands in the part of one of the numbers
+pub sum-place : (q : ℕ → ℕ) (n k : ℕ) → k < sum n q → (v : ℕ) × (i : ℕ) × (v < n) × (i < q v) × (k ≡ sum v q + i)
+sum-place q zero k h = absurd (omega arith)
+sum-place q (suc n) k h =
+    elim (decLt k (sum n q)) [
+      | yes l ↦ let x = sum-place q n k l in (x .0, x .1, omega (arith, x .2), x .3, x .4)
+      | no l ↦ (n, k - sum n q, omega arith, omega arith, omega arith)
+    ]

@@ -5,3 +5,5 @@ pub mod BaseLaws
 pub mod StartLaws
 pub mod TableLaws
 pub mod EndLaws
+pub mod PeriodLaws
+pub mod Unique

@@ -2,25 +2,28 @@
 use Prim.Native.Nat.{ℕ, suc, _≤_, _<_}
 use mathlib.Core.Path.{_≡_, refl, sym, ap, _∙_}
 use mathlib.Core.List.{List}
+use mathlib.Core.Logic.{⊎-elim}
 use native.Mathlib.Omega.{arith}
 use native.Mathlib.Decide.{ℕ-discrete}
 use lib.ListN.{length, set}
 use lib.Seq.{getD-set-same, getD-set-other}
 use Rattle.lists.specs.Front.{at}
-use Rattle.lists.proofs.Order.{order}
-use Rattle.firing.specs.Into.{FirstInto}
+use Rattle.lists.proofs.Order.{order, lt-or-ge}
+use Rattle.firing.specs.Into.{FirstInto, Threads}
 
 -- the threads through the queues from `from` on
 pub record Threading (n m : ℕ) (sink head next : List ℕ) (from : ℕ) : Type 0 where
   pub first : (v : ℕ) → v < n → FirstInto m sink v from (at head v)
   pub more : (e : ℕ) → from ≤ e → e < m → FirstInto m sink (at sink e) (suc e) (at next e)
+  pub no-queue : (e : ℕ) → m ≤ e → e < 64 → at next e ≡ m
 
 -- no queue is threaded yet
-pub none-threaded : (n m : ℕ) (sink head next : List ℕ) → ((v : ℕ) → v < n → at head v ≡ m) → Threading n m sink head next m
-none-threaded n m sink head next h =
+pub none-threaded : (n m : ℕ) (sink head next : List ℕ) → ((v : ℕ) → v < n → at head v ≡ m) → ((e : ℕ) → m ≤ e → e < 64 → at next e ≡ m) → Threading n m sink head next m
+none-threaded n m sink head next h rest =
     record {
       first = λ v b. rw (h v b) (record { ahead = omega arith; within = omega arith; passed = λ e l k. absurd (omega arith); goes = λ l. absurd (omega arith) });
       more = λ e l k. absurd (omega arith);
+      no-queue = rest;
     }
 
 module _ (n m : ℕ) (sink head next : List ℕ) (e : ℕ) (h : e < m) (s : at sink e < n) (t : Threading n m sink head next (suc e)) where
@@ -50,4 +53,19 @@ module _ (n m : ℕ) (sink head next : List ℕ) (e : ℕ) (h : e < m) (s : at s
       go (no x) = rw (getD-set-other next e k (at head (at sink e)) 0 x) (t .more k (omega arith) b)
 
   pub one-more-threaded : n ≤ length head → m ≤ length next → Threading n m sink (set head (at sink e) e) (set next e (at head (at sink e))) e
-  one-more-threaded room room′ = record { first = first-threaded room; more = more-threaded room′ }
+  one-more-threaded room room′ = record {
+    first = first-threaded room;
+    more = more-threaded room′;
+    no-queue = λ k l b. getD-set-other next e k (at head (at sink e)) 0 (λ x. omega arith) ∙ t .no-queue k l b;
+  }
+
+-- all queues are threaded, and none goes into a station from n on
+pub all-threaded : (n k m : ℕ) (sink head next : List ℕ) → n ≤ k → ((e : ℕ) → e < m → at sink e < n) → Threading k m sink head next 0 → k ≡ 32 → Threads n m sink head next
+all-threaded n k m sink head next few enters t wide = record {
+  first = λ v h. t .first v (omega arith);
+  more = λ e h. t .more e (omega arith) h;
+  no-station = λ v h b.
+      let f = t .first v (omega arith) in
+      ⊎-elim (λ l. absurd (omega (arith, enters (at head v) l, f .goes l))) (λ l. omega (arith, f .within)) (lt-or-ge (at head v) m);
+  no-queue = t .no-queue;
+}

@@ -4,7 +4,7 @@ use native.Mathlib.Omega.{arith}
 use lib.ListN.{length, length-set, getD-replicate}
 use Rattle.lists.specs.Front.{at}
 use borrow.Author.Needs.{needs}
-use Rattle.firing.proofs.ThreadLaws.{Threading, none-threaded, one-more-threaded}
+use Rattle.firing.proofs.ThreadLaws.{Threading, none-threaded, one-more-threaded, all-threaded}
 use Rattle.firing.proofs.thread.threads.Statement.{statement}
 use Rattle.firing.proofs.thread.threads.Tie as tie
 use Rattle.firing.proofs.thread.threads.Reads as reads
@@ -13,7 +13,7 @@ use Rattle.firing.proofs.wide.Reads as wide-reads
 
 abbrev Inv-loop : tie.InvT-loop
 Inv-loop n m source sink produced consumed none head₀ next₀ left₀ head next left =
-    (left ≤ m) × ((length head ≡ 32) × ((length next ≡ 64) × Threading n m sink head next left))
+    (left ≤ m) × ((length head ≡ 32) × ((length next ≡ 64) × Threading 32 m sink head next left))
 
 abbrev μ-loop : tie.MeasureT-loop
 μ-loop n m source sink produced consumed none head₀ next₀ left₀ head next left = left
@@ -33,7 +33,7 @@ loop-holds c = (
     refl,
     (
       refl,
-      none-threaded (c .args .n) (c .args .m) (c .args .sink .now) _ _ (λ v b. getD-replicate 32 v (c .args .m) 0 (omega (arith, c .pre .few))),
+      none-threaded 32 (c .args .m) (c .args .sink .now) _ _ (λ v b. getD-replicate 32 v (c .args .m) 0 b) (λ e h b. getD-replicate 64 e (c .args .m) 0 b),
     ),
   ),
 )
@@ -92,16 +92,16 @@ loop-again c =
     let a = c .before .before .before .before in
     let l = c .before .before .before .loop in
     let left : l .left ≡ suc (l .left - 1) = omega arith in
-    let t = one-more-threaded (a .args .n) (a .args .m) (a .args .sink .now) (l .head) (l .next) (l .left - 1) (omega arith) (enters c) (rw left at (l .inv .1 .1 .1)) (omega (arith, a .pre .few)) (omega (arith, a .pre .few-queues)) in
+    let t = one-more-threaded 32 (a .args .m) (a .args .sink .now) (l .head) (l .next) (l .left - 1) (omega arith) (omega (arith, enters c, a .pre .few)) (rw left at (l .inv .1 .1 .1)) (omega arith) (omega (arith, a .pre .few-queues)) in
     (search needs, (simp length-set (search needs), (simp length-set (search needs), rw (c .wide .ensures .0) t)))
 
 -- src/thread.rt:13:1
 returns : tie.Need-returns Inv-loop μ-loop
 returns c =
     let l = c .before .loop in
+    let a = c .before .before in
     let none : l .left ≡ 0 = omega arith in
-    let t = rw none at (l .inv .1 .1 .1) in
-    record { first = t .first; more = λ e h. t .more e (omega arith) h }
+    all-threaded (a .args .n) 32 (a .args .m) _ _ _ (a .pre .few) (a .pre .enters) (rw none at (l .inv .1 .1 .1)) refl
 
 pub threads-spec : {M : Type 1} → statement M
 threads-spec =

@@ -1,0 +1,95 @@
+-- What the routines find, by the definitions: the round list fires a round, and the time table tells the period and the late copies.
+use Prim.Native.Nat.{ℕ, _+_, _≤_, _<_}
+use mathlib.Core.Path.{_≡_}
+use mathlib.Core.Bool.{true}
+use mathlib.Core.List.{List}
+use mathlib.Core.Logic.{⊎-elim}
+use native.Mathlib.Omega.{arith}
+use lib.ListN.{length, take}
+use Rattle.lists.specs.Front.{at}
+use Rattle.lists.proofs.Order.{lt-or-ge}
+use Rattle.dataflow.specs.Net.{Net, Sound}
+use Rattle.dataflow.specs.Copies.{Copy}
+use Rattle.dataflow.specs.Paths.{Within, Period, Late}
+use Rattle.dataflow.specs.Search.{HowMany, none}
+use Rattle.dataflow.specs.Sheet.{Below}
+use Rattle.dataflow.specs.Times.{entry}
+use Rattle.dataflow.proofs.CopyLaws.{copy-station}
+use Rattle.dataflow.proofs.LateLaws.{many-same}
+use Rattle.dataflow.proofs.ListLaws.{list-run, list-fired}
+use Rattle.dataflow.proofs.PathLaws.{path-end}
+use Rattle.dataflow.proofs.RankLaws.{Ranked, round-ranked}
+use Rattle.dataflow.proofs.SumTable.{Sums}
+use Rattle.dataflow.proofs.TimeLaws.{sums-rise, table-sums}
+use Rattle.chain.specs.Chain.{CountedChain}
+use Rattle.firing.specs.declared.Fired.{Fired}
+use Rattle.firing.specs.Round.{netOf, delaysOf, Rounds}
+use Rattle.firing.specs.Times.{Bases, Ordered, Tabled}
+use Rattle.firing.specs.Late.{Readable, endOf, LatestEnd, LateCounts}
+use Rattle.firing.proofs.RoundLaws.{sound}
+
+module _ (n m : ℕ) (source sink produced consumed delay time q : List ℕ) (total : ℕ) where
+  abbrev G : Net
+  G = netOf n m source sink produced consumed time q
+
+  abbrev D : Below m → ℕ
+  D = delaysOf m delay
+
+  -- the round list is an order in which the round can be fired
+  pub rounds-ordered : (r : Fired) → total ≤ length (r .list) → Rounds n m source sink produced consumed delay q total r → r .fires ≡ true
+      → Ordered n m source sink produced consumed delay time q total (r .list)
+  rounds-ordered r long R t = let l = R .list t time in record { long = long; run = list-run G (at q) l; whole = list-fired G (at q) l }
+
+  module _ (c : CountedChain n m source sink produced consumed q total) where
+    -- its table can be read for the period and the late copies
+    pub table-readable : {base table : List ℕ} → Bases n q base → Tabled n m source sink produced consumed delay time q total table → Readable n q base table
+    table-readable b t = record {
+      some = c .chain .some;
+      few = c .chain .few;
+      positive = c .positive;
+      begins = b;
+      fits = omega (arith, c .adds, c .few);
+      starts = t .starts;
+    }
+
+    W : Sound G
+    W = sound n m source sink produced consumed delay q c time
+
+    module _ {list table : List ℕ} (o : Ordered n m source sink produced consumed delay time q total list) (t : Tabled n m source sink produced consumed delay time q total table) where
+      abbrev end : ℕ → ℕ → ℕ
+      end v i = entry (at q) table v i + at time v
+
+      pub ranked : Ranked G D (at q) (length (take total list))
+      ranked = round-ranked G W D (record { order = take total list; run = o .run; all-fired = o .whole })
+
+      sums : Sums G D end
+      sums = table-sums G W D _ ranked (entry (at q) table) (t .times)
+
+      -- the latest finish is the period
+      pub period-is : {r : ℕ} → LatestEnd n q time table r → Period G D r
+      period-is {r} l = go (l .reached)
+        where
+          within : Within G D r
+          within u h v i S p =
+              let k = path-end G W p in
+              omega (arith, sums .above u h v i S p, sums-rise G W D end sums v i (at q v) k (k .high) (omega arith), l .above v (copy-station G W k))
+
+          go : (v : ℕ) × (v < n) × (r ≡ end v (at q v)) → Period G D r
+          go x =
+              let k = c .positive (x .0) (x .1) in
+              let p = sums .reached (x .0) (at q (x .0)) (omega arith) in
+              record { first = p .0; first-copy = p .1; last = x .0; last-copy = at q (x .0); reached = rw (x .2) (p .2); passed-by-none = within }
+
+      -- a copy is late exactly where it finishes after the target
+      after-late : (T v i : ℕ) → Copy G v i → T < end v i → Late G D T v i
+      after-late T v i k h = let p = sums .reached v i k in record { first = p .0; first-copy = p .1; sum = end v i; path = p .2; slow = h }
+
+      late-after : (T v i : ℕ) → Late G D T v i → T < end v i
+      late-after T v i l = omega (arith, sums .above (l .first) (l .first-copy) v i (l .sum) (l .path), l .slow)
+
+      pub late-is : (T : ℕ) {late : List ℕ} → LateCounts n q time T table late → (v : ℕ) → HowMany (Late G D T v) (at q v) (at late v)
+      late-is T l v =
+          ⊎-elim
+          (λ h. many-same (λ i a b. after-late T v i (record { low = a; high = b })) (λ i a b. late-after T v i) (l .many v h))
+          (λ h. rw (c .beyond v h, l .beyond v h) none)
+          (lt-or-ge v n)
