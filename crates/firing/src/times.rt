@@ -1,11 +1,10 @@
 // The time table.
 ghost use mathlib.Core.Path.{_≡_};
-ghost use Prim.Native.Nat.{ℕ, _≤_, _<_, _^_};
+ghost use Prim.Native.Nat.{ℕ, _+_, _*_, _≤_, _<_, _^_};
 ghost use Rattle.lists.specs.Front.{at};
 ghost use Rattle.dataflow.specs.Counts.{sum};
 ghost use Rattle.firing.specs.Into.{Threads};
 ghost use Rattle.chain.specs.Chain.{CountedChain};
-
 ghost use Rattle.firing.specs.Times.{Bases, HoldsUp, HeldSmall, Waits, StartsAt, Ordered, Tabled};
 use crate::later;
 use crate::wide;
@@ -21,6 +20,14 @@ pub fn bases(n: usize, q: &[u32; 32]) -> [u32; 33]
         base[v + 1] = base[v] + q[v];
     }
     base
+}
+
+// The number of the last token that the next firing of a station takes from a queue, counted from its first firing on.
+fn last_token(fired: u32, consumed: u32) -> u32
+    requires { ⌜ (fired ≤ 256) × (consumed ≤ 64) ⌝ }
+    ensures { λ r. ⌜ r ≡ (fired + 1) * consumed ⌝ }
+{
+    (fired + 1) * consumed
 }
 
 // How long one queue holds a copy up that needs this many tokens of it in all.
@@ -61,7 +68,7 @@ fn start_of(
     let mut latest = 0;
     let mut e = wide(head[v]);
     while e < m {
-        let needed = (fired[v] + 1) * wide32(consumed[e]);
+        let needed = last_token(fired[v], wide32(consumed[e]));
         let u = wide(source[e]);
         let done = held(
             delay[e],

@@ -62,10 +62,13 @@ loop-again c =
     let i = w .before .before .before .before in
     let l = i .before in
     let a = l .before in
-    let e = a .pre .begins .is (l .loop .v) (omega (arith, i .loop-test .taken)) in
-    (search needs,
-    (simp length-set (l .loop .inv .1 .0),
-    count-more _ _ _ _ (l .loop .v) (c .late-of .result) (search needs) (rw (w .wide32 .ensures .0, e) at (c .late-of .ensures)) (l .loop .inv .1 .1)))
+    let e = a .pre .begins .is (l .loop .v) (omega (arith, i .loop-test .taken)) in (
+      search needs,
+      (
+        simp length-set (l .loop .inv .1 .0),
+        count-more _ _ _ _ (l .loop .v) (c .late-of .result) (search needs) (rw (w .wide32 .ensures .0, e) at (c .late-of .ensures)) (l .loop .inv .1 .1),
+      ),
+    )
 
 returns : tie.Need-returns Inv-loop μ-loop
 returns c =

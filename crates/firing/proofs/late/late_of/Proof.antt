@@ -50,12 +50,13 @@ loop-less c = search needs
 loop-again : tie.Need-loop-again Inv-loop μ-loop
 loop-again c =
     let l = c .before .before .before in
-    let a = l .before .args in
-    (search needs,
-    ⊎-elim
-    (λ x. rw (x .1) (ends-late (a .target) (a .from) (a .time) (a .table .now) (l .loop .inv .1) (x .0 .taken)))
-    (λ x. rw (x .1) (ends-in-time (a .target) (a .from) (a .time) (a .table .now) (l .loop .inv .1) (x .0 .left)))
-    (c .if1 .came))
+    let a = l .before .args in (
+      search needs,
+      ⊎-elim
+          (λ x. rw (x .1) (ends-late (a .target) (a .from) (a .time) (a .table .now) (l .loop .inv .1) (x .0 .taken)))
+          (λ x. rw (x .1) (ends-in-time (a .target) (a .from) (a .time) (a .table .now) (l .loop .inv .1) (x .0 .left)))
+          (c .if1 .came),
+    )
 
 returns : tie.Need-returns Inv-loop μ-loop
 returns c = let e : c .before .loop .i ≡ c .before .before .args .count = omega arith in rw e at (c .before .loop .inv .1)

@@ -6,9 +6,6 @@ use borrow.Author.Needs.{needs}
 use Rattle.firing.proofs.RoundLaws.{SoFar, none-fired, fired-few, one-more-fired, round-stuck, round-whole}
 use Rattle.firing.proofs.round.fire_round.Statement.{statement}
 use Rattle.firing.proofs.round.fire_round.Tie as tie
-use Rattle.firing.proofs.round.fire_round.Reads as reads
-use Rattle.firing.proofs.round.fire_round.Lts as lts
-use Rattle.firing.proofs.scan.ready.Reads as ready-reads
 
 abbrev Inv-loop : tie.InvT-loop
 Inv-loop n m total source sink produced consumed delay head next q list₀ fired₀ k₀ list fired k =
@@ -24,18 +21,15 @@ differs e = let z : _≡_ {A = ℕ} 0 1 = cc in omega arith
 within : (c : tie.Else1 Inv-loop μ-loop) → c .before .ready .result < c .before .before .before .before .before .args .n
 within c = omega (arith, c .before .ready .ensures .within, c .if1 .left)
 
--- src/round.rt:29:5
 loop-holds : tie.Need-loop-holds Inv-loop μ-loop
 loop-holds c = (search needs, none-fired _ _ _ _ _ _ _ _)
 
--- src/round.rt:30:13
 ready-requires : tie.Need-ready-requires Inv-loop μ-loop
 ready-requires c κs =
     let l = c .before .before in
     let p = l .before .pre in
     (p .0 .chain, (p .1 .0, record { delays = p .1 .1; firings = λ v. omega (arith, fired-few _ _ _ _ _ _ _ _ (l .loop .inv .1) (p .0) v) }))
 
--- src/round.rt:44:13
 returns : tie.Need-returns Inv-loop μ-loop
 returns c =
     let l = c .before .before .before .before in
@@ -47,47 +41,36 @@ returns c =
       blank = λ e. refl;
     }
 
--- src/round.rt:49:19
 cast-list : tie.Need-cast-list Inv-loop μ-loop
 cast-list c = omega (arith, within c, c .before .before .before .before .before .pre .0 .chain .few)
 
--- src/round.rt:49:9
 mul-list : tie.Need-mul-list Inv-loop μ-loop
 mul-list c = search needs
 
--- src/round.rt:49:9
 array-write-list : tie.Need-array-write-list Inv-loop μ-loop
 array-write-list c = search needs
 
--- src/round.rt:50:20
 mul-fired : tie.Need-mul-fired Inv-loop μ-loop
 mul-fired c = search needs
 
--- src/round.rt:50:20
 array-read-fired : tie.Need-array-read-fired Inv-loop μ-loop
 array-read-fired c = omega (arith, within c, c .before .before .before .before .before .pre .0 .chain .few)
 
--- src/round.rt:50:20
 add-fired : tie.Need-add-fired Inv-loop μ-loop
 add-fired c = omega (arith, fired-few _ _ _ _ _ _ _ _ (c .before .before .before .before .loop .inv .1) (c .before .before .before .before .before .pre .0) (c .before .ready .result))
 
--- src/round.rt:50:9
 mul-fired-2 : tie.Need-mul-fired-2 Inv-loop μ-loop
 mul-fired-2 c = search needs
 
--- src/round.rt:50:9
 array-write-fired : tie.Need-array-write-fired Inv-loop μ-loop
 array-write-fired c = omega (arith, within c, c .before .before .before .before .before .pre .0 .chain .few)
 
--- src/round.rt:51:9
 add-k : tie.Need-add-k Inv-loop μ-loop
 add-k c = search needs
 
--- src/round.rt:29:5
 loop-less : tie.Need-loop-less Inv-loop μ-loop
 loop-less c = search needs
 
--- src/round.rt:29:5
 loop-again : tie.Need-loop-again Inv-loop μ-loop
 loop-again c =
     let l = c .before .before .before .before in
@@ -96,7 +79,6 @@ loop-again c =
       one-more-fired _ _ _ _ _ _ _ _ (l .loop .inv .1) _ (within c) (a .pre .0 .chain .few) (omega (arith, a .pre .0 .few, c .before .before .before .loop-test .taken)) (c .before .ready .ensures),
     )
 
--- src/round.rt:10:1
 returns-2 : tie.Need-returns-2 Inv-loop μ-loop
 returns-2 c =
     let l = c .before in

@@ -1,18 +1,13 @@
 use Prim.Native.Nat.{ℕ, _+_, _-_, _*_, _≤_, _<_}
 use native.Mathlib.Omega.{arith}
-use Rattle.lists.specs.Front.{at}
-use Rattle.lists.specs.Test.{Tells}
 use borrow.Author.Needs.{needs}
 use borrow.Author.Count.{below-none, below-more}
+use Rattle.lists.specs.Front.{at}
+use Rattle.lists.specs.Test.{Tells}
 use Rattle.firing.specs.Scan.{Can}
 use Rattle.firing.proofs.ScanLaws.{FedBelow, fed-none, fed-more, fed-all}
 use Rattle.firing.proofs.scan.ready.Statement.{statement}
 use Rattle.firing.proofs.scan.ready.Tie as tie
-use Rattle.firing.proofs.scan.ready.Reads as reads
-use Rattle.firing.proofs.scan.ready.Lts as lts
-use Rattle.firing.proofs.scan.short.Reads as short-reads
-use Rattle.firing.proofs.wide.Reads as wide-reads
-use Rattle.firing.proofs.wide32.Reads as wide32-reads
 
 abbrev Inv-loop : tie.InvT-loop
 Inv-loop n m source sink produced consumed delay head next wanted fired later v e₀ e =
@@ -48,120 +43,92 @@ told : (c : tie.After-short Inv-loop μ-loop Inv-stations μ-stations) →
 told c =
     rw (c .before .before .before .before .before .before .before .before .wide2 .ensures .0, c .before .before .before .before .wide32 .ensures .0, c .before .wide322 .ensures .0) at (c .short .ensures)
 
--- src/scan.rt:36:5
 stations-holds : tie.Need-stations-holds Inv-loop μ-loop Inv-stations μ-stations
 stations-holds c = (search needs, below-none _)
 
--- src/scan.rt:41:17
 add-later : tie.Need-add-later Inv-loop μ-loop Inv-stations μ-stations
 add-later c = search needs
 
--- src/scan.rt:42:12
 mul-if2 : tie.Need-mul-if2 Inv-loop μ-loop Inv-stations μ-stations
 mul-if2 c = search needs
 
--- src/scan.rt:42:12
 element-copy-out-if2 : tie.Need-element-copy-out-if2 Inv-loop μ-loop Inv-stations μ-stations
 element-copy-out-if2 c = search needs
 
--- src/scan.rt:42:25
 mul-if2-2 : tie.Need-mul-if2-2 Inv-loop μ-loop Inv-stations μ-stations
 mul-if2-2 c = search needs
 
--- src/scan.rt:42:25
 element-copy-out-if2-2 : tie.Need-element-copy-out-if2-2 Inv-loop μ-loop Inv-stations μ-stations
 element-copy-out-if2-2 c = search needs
 
--- src/scan.rt:36:5
 stations-less : tie.Need-stations-less Inv-loop μ-loop Inv-stations μ-stations
 stations-less c = search needs
 
--- src/scan.rt:36:5
 stations-again : tie.Need-stations-again Inv-loop μ-loop Inv-stations μ-stations
 stations-again c = (search needs, below-more _ _ (c .before .before .before .before .stations .inv .1) (λ can. omega (arith, can .left)))
 
--- src/scan.rt:45:26
 mul-wide : tie.Need-mul-wide Inv-loop μ-loop Inv-stations μ-stations
 mul-wide c = search needs
 
--- src/scan.rt:45:26
 element-copy-out-wide : tie.Need-element-copy-out-wide Inv-loop μ-loop Inv-stations μ-stations
 element-copy-out-wide c = search needs
 
--- src/scan.rt:45:13
 wide-requires : tie.Need-wide-requires Inv-loop μ-loop Inv-stations μ-stations
 wide-requires c κs = search needs
 
--- src/scan.rt:46:9
 loop-holds : tie.Need-loop-holds Inv-loop μ-loop Inv-stations μ-stations
 loop-holds c =
     let z = c .before .before .before .before .before .before .before in
     fed-none _ _ _ _ _ _ _ _ (rw (c .wide .ensures .0) (z .pre .1 .0 .first _ (omega arith)))
 
--- src/scan.rt:47:26
 mul-wide-2 : tie.Need-mul-wide-2 Inv-loop μ-loop Inv-stations μ-stations
 mul-wide-2 c = search needs
 
--- src/scan.rt:47:26
 element-copy-out-wide-2 : tie.Need-element-copy-out-wide-2 Inv-loop μ-loop Inv-stations μ-stations
 element-copy-out-wide-2 c = search needs
 
--- src/scan.rt:47:17
 wide-requires-2 : tie.Need-wide-requires-2 Inv-loop μ-loop Inv-stations μ-stations
 wide-requires-2 c κs = search needs
 
--- src/scan.rt:49:17
 mul-short : tie.Need-mul-short Inv-loop μ-loop Inv-stations μ-stations
 mul-short c = search needs
 
--- src/scan.rt:49:17
 element-copy-out-short : tie.Need-element-copy-out-short Inv-loop μ-loop Inv-stations μ-stations
 element-copy-out-short c = search needs
 
--- src/scan.rt:50:17
 mul-short-2 : tie.Need-mul-short-2 Inv-loop μ-loop Inv-stations μ-stations
 mul-short-2 c = search needs
 
--- src/scan.rt:50:17
 element-copy-out-short-2 :
     tie.Need-element-copy-out-short-2 Inv-loop μ-loop Inv-stations μ-stations
 element-copy-out-short-2 c = omega (arith, leaves (c .before .before .before), c .before .wide2 .ensures)
 
--- src/scan.rt:51:24
 mul-wide32 : tie.Need-mul-wide32 Inv-loop μ-loop Inv-stations μ-stations
 mul-wide32 c = search needs
 
--- src/scan.rt:51:24
 element-copy-out-wide32 : tie.Need-element-copy-out-wide32 Inv-loop μ-loop Inv-stations μ-stations
 element-copy-out-wide32 c = search needs
 
--- src/scan.rt:51:17
 wide32-requires : tie.Need-wide32-requires Inv-loop μ-loop Inv-stations μ-stations
 wide32-requires c κs = search needs
 
--- src/scan.rt:52:17
 mul-short-3 : tie.Need-mul-short-3 Inv-loop μ-loop Inv-stations μ-stations
 mul-short-3 c = search needs
 
--- src/scan.rt:52:17
 element-copy-out-short-3 :
     tie.Need-element-copy-out-short-3 Inv-loop μ-loop Inv-stations μ-stations
 element-copy-out-short-3 c = search needs
 
--- src/scan.rt:53:24
 mul-wide32-2 : tie.Need-mul-wide32-2 Inv-loop μ-loop Inv-stations μ-stations
 mul-wide32-2 c = search needs
 
--- src/scan.rt:53:24
 element-copy-out-wide32-2 :
     tie.Need-element-copy-out-wide32-2 Inv-loop μ-loop Inv-stations μ-stations
 element-copy-out-wide32-2 c = search needs
 
--- src/scan.rt:53:17
 wide32-requires-2 : tie.Need-wide32-requires-2 Inv-loop μ-loop Inv-stations μ-stations
 wide32-requires-2 c κs = search needs
 
--- src/scan.rt:48:16
 short-requires : tie.Need-short-requires Inv-loop μ-loop Inv-stations μ-stations
 short-requires c κs =
     let l = c .before .before .before .before .before .before .before .before .before .before in
@@ -177,33 +144,26 @@ short-requires c κs =
       ),
     )
 
--- src/scan.rt:36:5
 stations-less-2 : tie.Need-stations-less-2 Inv-loop μ-loop Inv-stations μ-stations
 stations-less-2 c = search needs
 
--- src/scan.rt:36:5
 stations-again-2 : tie.Need-stations-again-2 Inv-loop μ-loop Inv-stations μ-stations
 stations-again-2 c = (search needs, below-more _ _ (at-loop (c .before) .before .before .before .before .before .before .before .stations .inv .1) (λ can. let l = at-loop (c .before) in omega (arith, can .fed (l .loop .e) (omega arith) (l .loop .inv .goes (omega arith)), told (c .before) .holds (c .if3 .taken))))
 
--- src/scan.rt:57:22
 mul-wide-3 : tie.Need-mul-wide-3 Inv-loop μ-loop Inv-stations μ-stations
 mul-wide-3 c = search needs
 
--- src/scan.rt:57:22
 element-copy-out-wide-3 : tie.Need-element-copy-out-wide-3 Inv-loop μ-loop Inv-stations μ-stations
 element-copy-out-wide-3 c = search needs
 
--- src/scan.rt:57:13
 wide-requires-3 : tie.Need-wide-requires-3 Inv-loop μ-loop Inv-stations μ-stations
 wide-requires-3 c κs = search needs
 
--- src/scan.rt:46:9
 loop-less : tie.Need-loop-less Inv-loop μ-loop Inv-stations μ-stations
 loop-less c =
     let l = at-loop (c .before .before .before) in
     omega (arith, begin l .pre .1 .0 .more (l .loop .e) (omega arith), c .wide3 .ensures)
 
--- src/scan.rt:46:9
 loop-again : tie.Need-loop-again Inv-loop μ-loop Inv-stations μ-stations
 loop-again c =
     let t = c .before .before .before in
@@ -213,11 +173,9 @@ loop-again c =
     fed-more _ _ _ _ _ _ _ _ (l .loop .inv) h (omega (arith, told t .fails (c .before .before .if3 .left)))
     (rw (c .wide3 .ensures .0) (begin l .pre .1 .0 .more e h))
 
--- src/scan.rt:19:1
 returns : tie.Need-returns Inv-loop μ-loop Inv-stations μ-stations
 returns c = record { within = search needs; below = λ w l. c .before .stations .inv .1 w (omega arith); can = λ l. absurd (omega arith) }
 
--- src/scan.rt:19:1
 returns-2 : tie.Need-returns-2 Inv-loop μ-loop Inv-stations μ-stations
 returns-2 c = record { within = search needs; below = c .before .before .before .before .before .before .before .before .stations .inv .1; can = λ l. record { left = search needs; fed = fed-all _ _ _ _ _ _ _ _ (c .before .loop .inv) (c .loop-test .left) } }
 

@@ -1,12 +1,10 @@
-use Rattle.lists.proofs.TestLaws.{tells-lt}
 use Prim.Native.Nat.{_+_, _*_, _≤_}
 use native.Mathlib.Nat.{mul-le-mul}
 use native.Mathlib.Omega.{arith}
 use borrow.Author.Needs.{needs}
+use Rattle.lists.proofs.TestLaws.{tells-lt}
 use Rattle.firing.proofs.scan.short.Statement.{statement}
 use Rattle.firing.proofs.scan.short.Tie as tie
-use Rattle.firing.proofs.scan.short.Reads as reads
-use Rattle.firing.proofs.scan.short.Lts as lts
 
 made : (c : tie.Start) → c .args .made * c .args .produced ≤ 65536 * 64
 made c = mul-le-mul (c .pre .1 .0) (c .pre .1 .1 .0)
@@ -14,23 +12,18 @@ made c = mul-le-mul (c .pre .1 .0) (c .pre .1 .1 .0)
 taken : (c : tie.Start) → (c .args .taken + 1) * c .args .consumed ≤ 65537 * 64
 taken c = let h : c .args .taken + 1 ≤ 65537 = omega arith in mul-le-mul h (c .pre .1 .1 .1 .1)
 
--- src/scan.rt:15:13
 mul-result : tie.Need-mul-result
 mul-result c = omega (arith, made c)
 
--- src/scan.rt:15:5
 add-result : tie.Need-add-result
 add-result c = omega (arith, made c)
 
--- src/scan.rt:15:32
 add-result-2 : tie.Need-add-result-2
-add-result-2 c = search needs
+add-result-2 c = omega (arith, made c)
 
--- src/scan.rt:15:31
 mul-result-2 : tie.Need-mul-result-2
 mul-result-2 c = omega (arith, taken c)
 
--- src/scan.rt:11:1
 returns : tie.Need-returns
 returns c = tells-lt _ _
 

@@ -2,14 +2,11 @@ use Prim.Native.Nat.{suc, _-_, _≤_, _<_}
 use mathlib.Core.Path.{_≡_, refl}
 use native.Mathlib.Omega.{arith}
 use lib.ListN.{length, length-set, getD-replicate}
-use Rattle.lists.specs.Front.{at}
 use borrow.Author.Needs.{needs}
+use Rattle.lists.specs.Front.{at}
 use Rattle.firing.proofs.ThreadLaws.{Threading, none-threaded, one-more-threaded, all-threaded}
 use Rattle.firing.proofs.thread.threads.Statement.{statement}
 use Rattle.firing.proofs.thread.threads.Tie as tie
-use Rattle.firing.proofs.thread.threads.Reads as reads
-use Rattle.firing.proofs.thread.threads.Lts as lts
-use Rattle.firing.proofs.wide.Reads as wide-reads
 
 abbrev Inv-loop : tie.InvT-loop
 Inv-loop n m source sink produced consumed none head₀ next₀ left₀ head next left =
@@ -21,11 +18,9 @@ abbrev μ-loop : tie.MeasureT-loop
 enters : (c : tie.After-wide Inv-loop μ-loop) → at (c .before .before .before .before .args .sink .now) (c .before .before .before .loop .left - 1) < c .before .before .before .before .args .n
 enters c = c .before .before .before .before .pre .enters _ (omega arith)
 
--- src/thread.rt:24:16
 cast-none : tie.Need-cast-none Inv-loop μ-loop
 cast-none c = search needs
 
--- src/thread.rt:28:5
 loop-holds : tie.Need-loop-holds Inv-loop μ-loop
 loop-holds c = (
   search needs,
@@ -38,55 +33,42 @@ loop-holds c = (
   ),
 )
 
--- src/thread.rt:29:17
 sub-e : tie.Need-sub-e Inv-loop μ-loop
 sub-e c = search needs
 
--- src/thread.rt:30:22
 mul-wide : tie.Need-mul-wide Inv-loop μ-loop
 mul-wide c = search needs
 
--- src/thread.rt:30:22
 element-copy-out-wide : tie.Need-element-copy-out-wide Inv-loop μ-loop
 element-copy-out-wide c = search needs
 
--- src/thread.rt:30:13
 wide-requires : tie.Need-wide-requires Inv-loop μ-loop
 wide-requires c κs = search needs
 
--- src/thread.rt:31:19
 mul-next : tie.Need-mul-next Inv-loop μ-loop
 mul-next c = search needs
 
--- src/thread.rt:31:19
 array-read-next : tie.Need-array-read-next Inv-loop μ-loop
 array-read-next c = omega (arith, enters c, c .wide .ensures)
 
--- src/thread.rt:31:9
 mul-next-2 : tie.Need-mul-next-2 Inv-loop μ-loop
 mul-next-2 c = search needs
 
--- src/thread.rt:31:9
 array-write-next : tie.Need-array-write-next Inv-loop μ-loop
 array-write-next c = search needs
 
--- src/thread.rt:32:19
 cast-head : tie.Need-cast-head Inv-loop μ-loop
 cast-head c = search needs
 
--- src/thread.rt:32:9
 mul-head : tie.Need-mul-head Inv-loop μ-loop
 mul-head c = search needs
 
--- src/thread.rt:32:9
 array-write-head : tie.Need-array-write-head Inv-loop μ-loop
 array-write-head c = omega (arith, enters c, c .wide .ensures)
 
--- src/thread.rt:28:5
 loop-less : tie.Need-loop-less Inv-loop μ-loop
 loop-less c = search needs
 
--- src/thread.rt:28:5
 loop-again : tie.Need-loop-again Inv-loop μ-loop
 loop-again c =
     let a = c .before .before .before .before in
@@ -95,7 +77,6 @@ loop-again c =
     let t = one-more-threaded 32 (a .args .m) (a .args .sink .now) (l .head) (l .next) (l .left - 1) (omega arith) (omega (arith, enters c, a .pre .few)) (rw left at (l .inv .1 .1 .1)) (omega arith) (omega (arith, a .pre .few-queues)) in
     (search needs, (simp length-set (search needs), (simp length-set (search needs), rw (c .wide .ensures .0) t)))
 
--- src/thread.rt:13:1
 returns : tie.Need-returns Inv-loop μ-loop
 returns c =
     let l = c .before .loop in

@@ -2,16 +2,14 @@ use Prim.Native.Nat.{_≤_, _-_}
 use mathlib.Core.Path.{_≡_, refl, _∙_}
 use native.Mathlib.Omega.{arith}
 use lib.ListN.{length, length-set}
-use Rattle.lists.specs.Front.{at}
 use borrow.Author.Needs.{needs}
+use Rattle.lists.specs.Front.{at}
 use Rattle.dataflow.proofs.SumLaws.{sum-before}
 use Rattle.firing.specs.Times.{Bases}
 use Rattle.firing.proofs.RoundLaws.{zeros}
 use Rattle.firing.proofs.BaseLaws.{bases-more}
 use Rattle.firing.proofs.times.bases.Statement.{statement}
 use Rattle.firing.proofs.times.bases.Tie as tie
-use Rattle.firing.proofs.times.bases.Reads as reads
-use Rattle.firing.proofs.times.bases.Lts as lts
 
 abbrev Inv-loop : tie.InvT-loop
 Inv-loop n q base₀ v₀ base v = (v ≤ n) × ((length base ≡ 33) × Bases v q base)
@@ -19,58 +17,45 @@ Inv-loop n q base₀ v₀ base v = (v ≤ n) × ((length base ≡ 33) × Bases v
 abbrev μ-loop : tie.MeasureT-loop
 μ-loop n q base₀ v₀ base v = n - v
 
--- src/times.rt:14:5
 loop-holds : tie.Need-loop-holds Inv-loop μ-loop
 loop-holds c = (search needs, (refl, record { is = λ v l. zeros 33 v ∙ (let e : v ≡ 0 = omega arith in rw e); rest = λ v l. zeros 33 v }))
 
--- src/times.rt:15:23
 mul-base : tie.Need-mul-base Inv-loop μ-loop
 mul-base c = search needs
 
--- src/times.rt:15:23
 array-read-base : tie.Need-array-read-base Inv-loop μ-loop
 array-read-base c = search needs
 
--- src/times.rt:15:33
 mul-base-2 : tie.Need-mul-base-2 Inv-loop μ-loop
 mul-base-2 c = search needs
 
--- src/times.rt:15:33
 element-copy-out-base : tie.Need-element-copy-out-base Inv-loop μ-loop
 element-copy-out-base c = search needs
 
--- src/times.rt:15:23
 add-base : tie.Need-add-base Inv-loop μ-loop
 add-base c =
     let l = c .before .before in
     let a = l .before in
     omega (arith, l .loop .inv .1 .1 .is (l .loop .v) (omega arith), sum-before (at (a .args .q .now)) (l .loop .v) (a .args .n) (omega arith), a .pre .1)
 
--- src/times.rt:15:14
 add-base-2 : tie.Need-add-base-2 Inv-loop μ-loop
 add-base-2 c = search needs
 
--- src/times.rt:15:9
 mul-base-3 : tie.Need-mul-base-3 Inv-loop μ-loop
 mul-base-3 c = search needs
 
--- src/times.rt:15:9
 array-write-base : tie.Need-array-write-base Inv-loop μ-loop
 array-write-base c = search needs
 
--- src/times.rt:14:9
 add-v : tie.Need-add-v Inv-loop μ-loop
 add-v c = search needs
 
--- src/times.rt:14:5
 loop-less : tie.Need-loop-less Inv-loop μ-loop
 loop-less c = search needs
 
--- src/times.rt:14:5
 loop-again : tie.Need-loop-again Inv-loop μ-loop
 loop-again c = (search needs, (simp length-set (search needs), bases-more _ _ _ (omega arith) (c .before .before .loop .inv .1 .1)))
 
--- src/times.rt:9:1
 returns : tie.Need-returns Inv-loop μ-loop
 returns c = let e : c .before .loop .v ≡ c .before .before .args .n = omega arith in rw e at (c .before .loop .inv .1 .1)
 

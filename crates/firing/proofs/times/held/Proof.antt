@@ -3,50 +3,38 @@ use native.Mathlib.Omega.{arith}
 use borrow.Author.Needs.{needs}
 use Rattle.firing.proofs.times.held.Statement.{statement}
 use Rattle.firing.proofs.times.held.Tie as tie
-use Rattle.firing.proofs.times.held.Reads as reads
-use Rattle.firing.proofs.times.held.Lts as lts
 
 -- the maker's place is in the table
 place : (c : tie.Else1) → let a = c .before .args in a .base + (a .needed - 1 - a .delay) / a .produced < 256
 place c = c .before .pre .0 .place (omega arith)
 
--- src/times.rt:26:9
 returns : tie.Need-returns
 returns c = search needs
 
--- src/times.rt:28:18
 sub-maker : tie.Need-sub-maker
 sub-maker c = search needs
 
--- src/times.rt:28:18
 sub-maker-2 : tie.Need-sub-maker-2
 sub-maker-2 c = search needs
 
--- src/times.rt:28:17
 div-maker : tie.Need-div-maker
 div-maker c = search needs
 
--- src/times.rt:29:18
 add-place : tie.Need-add-place
 add-place c = omega (arith, place c)
 
--- src/times.rt:29:17
 cast-place : tie.Need-cast-place
 cast-place c = omega (arith, place c)
 
--- src/times.rt:30:5
 mul-result : tie.Need-mul-result
 mul-result c = omega (arith, place c)
 
--- src/times.rt:30:5
 element-copy-out-result : tie.Need-element-copy-out-result
 element-copy-out-result c = place c
 
--- src/times.rt:30:5
 add-result : tie.Need-add-result
 add-result c = let a = c .before .before .args in omega (arith, c .before .before .pre .0 .starts (a .base + (a .needed - 1 - a .delay) / a .produced), c .before .before .pre .1)
 
--- src/times.rt:21:1
 returns-2 : tie.Need-returns-2
 returns-2 c = search needs
 

@@ -1,18 +1,11 @@
-use mathlib.Core.Path.{ap}
 use Prim.Native.Nat.{_+_, _-_, _≤_, _<_}
-use native.Mathlib.Nat.{mul-le-mul}
+use mathlib.Core.Path.{ap}
 use native.Mathlib.Omega.{arith}
 use borrow.Author.Needs.{needs}
 use Rattle.lists.specs.Front.{at}
 use Rattle.firing.proofs.StartLaws.{StartBelow, start-none, start-more, start-all, count-few, held-small}
 use Rattle.firing.proofs.times.start_of.Statement.{statement}
 use Rattle.firing.proofs.times.start_of.Tie as tie
-use Rattle.firing.proofs.times.start_of.Reads as reads
-use Rattle.firing.proofs.times.start_of.Lts as lts
-use Rattle.firing.proofs.times.held.Reads as held-reads
-use Rattle.firing.proofs.later.Reads as later-reads
-use Rattle.firing.proofs.wide.Reads as wide-reads
-use Rattle.firing.proofs.wide32.Reads as wide32-reads
 
 abbrev Inv-loop : tie.InvT-loop
 Inv-loop n m total v source sink produced consumed delay head next q base time fired table latest₀ e₀ latest e =
@@ -30,158 +23,121 @@ fired-few c = let z = begin c in omega (arith, count-few (z .pre .0) (z .pre .1 
 leaves : (c : tie.In-loop Inv-loop μ-loop) → at (begin c .args .source .now) (c .before .loop .e) < begin c .args .n
 leaves c = begin c .pre .0 .chain .leaves (c .before .loop .e) (c .loop-test .taken)
 
--- src/times.rt:66:22
 mul-wide : tie.Need-mul-wide Inv-loop μ-loop
 mul-wide c = search needs
 
--- src/times.rt:66:22
 element-copy-out-wide : tie.Need-element-copy-out-wide Inv-loop μ-loop
 element-copy-out-wide c = omega (arith, c .pre .1 .1 .here, c .pre .0 .chain .few)
 
--- src/times.rt:66:9
 wide-requires : tie.Need-wide-requires Inv-loop μ-loop
 wide-requires c κs = search needs
 
--- src/times.rt:67:5
 loop-holds : tie.Need-loop-holds Inv-loop μ-loop
 loop-holds c =
     let z = c .before .before in
     start-none _ _ _ _ _ _ _ _ _ _ _ _ (rw (c .wide .ensures .0) (z .pre .1 .0 .first _ (z .pre .1 .1 .here)))
 
--- src/times.rt:68:23
-mul-needed : tie.Need-mul-needed Inv-loop μ-loop
-mul-needed c = search needs
+mul-last-token : tie.Need-mul-last-token Inv-loop μ-loop
+mul-last-token c = search needs
 
--- src/times.rt:68:23
-element-copy-out-needed : tie.Need-element-copy-out-needed Inv-loop μ-loop
-element-copy-out-needed c = omega (arith, begin c .pre .1 .1 .here, begin c .pre .0 .chain .few)
+element-copy-out-last-token : tie.Need-element-copy-out-last-token Inv-loop μ-loop
+element-copy-out-last-token c = omega (arith, begin c .pre .1 .1 .here, begin c .pre .0 .chain .few)
 
--- src/times.rt:68:23
-add-needed : tie.Need-add-needed Inv-loop μ-loop
-add-needed c = omega (arith, fired-few (c .before))
-
--- src/times.rt:68:46
 mul-wide32 : tie.Need-mul-wide32 Inv-loop μ-loop
 mul-wide32 c = search needs
 
--- src/times.rt:68:46
 element-copy-out-wide32 : tie.Need-element-copy-out-wide32 Inv-loop μ-loop
 element-copy-out-wide32 c = search needs
 
--- src/times.rt:68:39
 wide32-requires : tie.Need-wide32-requires Inv-loop μ-loop
 wide32-requires c κs = search needs
 
--- src/times.rt:68:22
-mul-needed-2 : tie.Need-mul-needed-2 Inv-loop μ-loop
-mul-needed-2 c =
+last-token-requires : tie.Need-last-token-requires Inv-loop μ-loop
+last-token-requires c κs =
     let i = c .before .before .before in
-    let f : at (begin i .args .fired .now) (begin i .args .v) + 1 ≤ 257 = omega (arith, fired-few i) in
-    let t : c .wide32 .result ≤ 64 = omega (arith, begin i .pre .0 .chain .takes-most (i .before .loop .e) (i .loop-test .taken), c .wide32 .ensures) in
-    omega (arith, mul-le-mul f t)
+    (fired-few i, omega (arith, begin i .pre .0 .chain .takes-most (i .before .loop .e) (i .loop-test .taken), c .wide32 .ensures))
 
--- src/times.rt:69:22
 mul-wide-2 : tie.Need-mul-wide-2 Inv-loop μ-loop
 mul-wide-2 c = search needs
 
--- src/times.rt:69:22
 element-copy-out-wide-2 : tie.Need-element-copy-out-wide-2 Inv-loop μ-loop
 element-copy-out-wide-2 c = search needs
 
--- src/times.rt:69:13
 wide-requires-2 : tie.Need-wide-requires-2 Inv-loop μ-loop
 wide-requires-2 c κs = search needs
 
--- src/times.rt:70:25
 mul-held : tie.Need-mul-held Inv-loop μ-loop
 mul-held c = search needs
 
--- src/times.rt:70:25
 element-copy-out-held : tie.Need-element-copy-out-held Inv-loop μ-loop
 element-copy-out-held c = search needs
 
--- src/times.rt:70:50
 mul-wide32-2 : tie.Need-mul-wide32-2 Inv-loop μ-loop
 mul-wide32-2 c = search needs
 
--- src/times.rt:70:50
 element-copy-out-wide32-2 : tie.Need-element-copy-out-wide32-2 Inv-loop μ-loop
 element-copy-out-wide32-2 c = search needs
 
--- src/times.rt:70:43
 wide32-requires-2 : tie.Need-wide32-requires-2 Inv-loop μ-loop
 wide32-requires-2 c κs = search needs
 
--- src/times.rt:70:64
 mul-held-2 : tie.Need-mul-held-2 Inv-loop μ-loop
 mul-held-2 c = search needs
 
--- src/times.rt:70:64
 element-copy-out-held-2 : tie.Need-element-copy-out-held-2 Inv-loop μ-loop
-element-copy-out-held-2 c = omega (arith, leaves (c .before .before .before .before .before .before .before .before), c .before .before .before .wide2 .ensures, begin (c .before .before .before .before .before .before .before .before) .pre .0 .chain .few)
+element-copy-out-held-2 c = omega (arith, leaves (c .before .before .before .before .before .before .before .before .before), c .before .before .before .wide2 .ensures, begin (c .before .before .before .before .before .before .before .before .before) .pre .0 .chain .few)
 
--- src/times.rt:70:80
 mul-wide32-3 : tie.Need-mul-wide32-3 Inv-loop μ-loop
 mul-wide32-3 c = search needs
 
--- src/times.rt:70:80
 element-copy-out-wide32-3 : tie.Need-element-copy-out-wide32-3 Inv-loop μ-loop
-element-copy-out-wide32-3 c = omega (arith, leaves (c .before .before .before .before .before .before .before .before .before), c .before .before .before .before .wide2 .ensures, begin (c .before .before .before .before .before .before .before .before .before) .pre .0 .chain .few)
+element-copy-out-wide32-3 c = omega (arith, leaves (c .before .before .before .before .before .before .before .before .before .before), c .before .before .before .before .wide2 .ensures, begin (c .before .before .before .before .before .before .before .before .before .before) .pre .0 .chain .few)
 
--- src/times.rt:70:73
 wide32-requires-3 : tie.Need-wide32-requires-3 Inv-loop μ-loop
 wide32-requires-3 c κs = search needs
 
--- src/times.rt:70:13
 held-requires : tie.Need-held-requires Inv-loop μ-loop
 held-requires c κs =
-    let i = c .before .before .before .before .before .before .before .before .before .before .before in
+    let i = c .before .before .before .before .before .before .before .before .before .before .before .before in
     let z = begin i in
     let e = i .before .loop .e in (
-      rw (c .before .before .before .before .before .before .wide2 .ensures .0, c .before .before .before .before .before .before .before .before .wide32 .ensures .0, c .before .before .before .wide322 .ensures .0) (held-small (z .pre .0) (z .pre .1 .1) e (i .loop-test .taken) (i .before .loop .inv .goes (i .loop-test .taken))),
+      rw (c .before .before .before .before .before .before .wide2 .ensures .0, c .before .before .before .before .before .before .before .before .last-token .ensures, c .before .before .before .before .before .before .before .before .before .wide32 .ensures .0, c .before .before .before .wide322 .ensures .0) (held-small (z .pre .0) (z .pre .1 .1) e (i .loop-test .taken) (i .before .loop .inv .goes (i .loop-test .taken))),
       search needs,
     )
 
--- src/times.rt:71:9
 later-requires : tie.Need-later-requires Inv-loop μ-loop
 later-requires c κs = search needs
 
--- src/times.rt:72:18
 mul-wide-3 : tie.Need-mul-wide-3 Inv-loop μ-loop
 mul-wide-3 c = search needs
 
--- src/times.rt:72:18
 element-copy-out-wide-3 : tie.Need-element-copy-out-wide-3 Inv-loop μ-loop
 element-copy-out-wide-3 c = search needs
 
--- src/times.rt:72:9
 wide-requires-3 : tie.Need-wide-requires-3 Inv-loop μ-loop
 wide-requires-3 c κs = search needs
 
--- src/times.rt:67:5
 loop-less : tie.Need-loop-less Inv-loop μ-loop
 loop-less c =
-    let i = c .before .before .before .before .before .before .before .before .before .before .before .before .before .before .before in
+    let i = c .before .before .before .before .before .before .before .before .before .before .before .before .before .before .before .before in
     omega (arith, begin i .pre .1 .0 .more (i .before .loop .e) (i .loop-test .taken), c .wide3 .ensures, i .loop-test .taken)
 
--- src/times.rt:67:5
 loop-again : tie.Need-loop-again Inv-loop μ-loop
 loop-again c =
     let h = c .before .before .before in
-    let i = c .before .before .before .before .before .before .before .before .before .before .before .before .before .before .before in
+    let i = c .before .before .before .before .before .before .before .before .before .before .before .before .before .before .before .before in
     let z = begin i in
     let e = i .before .loop .e in
     let b = i .before .loop .inv in
     let w2 = h .before .before .before .before .before .before .before .wide2 .ensures .0 in
     let w323 = h .before .wide323 .ensures in
-    let up = rw (w323 .0, w2, h .before .before .before .before .before .before .before .before .before .wide32 .ensures .0, h .before .before .before .before .wide322 .ensures .0) at (h .held .ensures) in
+    let up = rw (w323 .0, w2, h .before .before .before .before .before .before .before .before .before .last-token .ensures, h .before .before .before .before .before .before .before .before .before .before .wide32 .ensures .0, h .before .before .before .before .wide322 .ensures .0) at (h .held .ensures) in
     let to = b .goes (i .loop-test .taken) in
     let u : at (z .args .source .now) e ≤ z .args .n = omega (arith, leaves i) in
     rw (c .wide3 .ensures .0, c .before .before .later .ensures)
     (start-more _ _ _ _ _ _ _ _ _ _ _ _ e (i .loop-test .taken) to (z .pre .0 .chain .makes e (i .loop-test .taken)) _ _ (z .pre .1 .1 .begins .is (at (z .args .source .now) e) u) up
     (omega (arith, w323, ap (at (z .args .time .now)) w2)) b (z .pre .1 .0 .more e (i .loop-test .taken)))
 
--- src/times.rt:44:1
 returns : tie.Need-returns Inv-loop μ-loop
 returns c = start-all _ _ _ _ _ _ _ _ _ _ _ _ (c .before .loop .inv) (c .loop-test .left)
 
@@ -195,13 +151,12 @@ start-of-spec =
     element-copy-out-wide
     wide-requires
     loop-holds
-    mul-needed
-    element-copy-out-needed
-    add-needed
+    mul-last-token
+    element-copy-out-last-token
     mul-wide32
     element-copy-out-wide32
     wide32-requires
-    mul-needed-2
+    last-token-requires
     mul-wide-2
     element-copy-out-wide-2
     wide-requires-2

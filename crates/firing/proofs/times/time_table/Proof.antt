@@ -8,10 +8,6 @@ use Rattle.dataflow.specs.Counts.{sum}
 use Rattle.firing.proofs.TableLaws.{TableSoFar, none-found, here, waits, place-within, one-more-found, all-found}
 use Rattle.firing.proofs.times.time_table.Statement.{statement}
 use Rattle.firing.proofs.times.time_table.Tie as tie
-use Rattle.firing.proofs.times.time_table.Reads as reads
-use Rattle.firing.proofs.times.time_table.Lts as lts
-use Rattle.firing.proofs.times.start_of.Reads as start-of-reads
-use Rattle.firing.proofs.wide.Reads as wide-reads
 
 abbrev Inv-loop : tie.InvT-loop
 Inv-loop n m total source sink produced consumed delay head next q base time list table₀ fired₀ k₀ table fired k =
@@ -42,103 +38,85 @@ placed c =
     let a = begin i in
     rw (begins c, c .wide .ensures .0) (place-within _ _ _ _ _ _ _ _ _ _ _ (a .pre .1 .1 .1 .1) (long i) (i .before .loop .k) (i .loop-test .taken) (a .pre .0) (i .before .loop .inv .1))
 
--- src/times.rt:106:5
 loop-holds : tie.Need-loop-holds Inv-loop μ-loop
 loop-holds c = (search needs, none-found _ _ _ _ _ _ _ _ _ _ _)
 
--- src/times.rt:107:22
 mul-wide : tie.Need-mul-wide Inv-loop μ-loop
 mul-wide c = search needs
 
--- src/times.rt:107:22
 element-copy-out-wide : tie.Need-element-copy-out-wide Inv-loop μ-loop
 element-copy-out-wide c = search needs
 
--- src/times.rt:107:13
 wide-requires : tie.Need-wide-requires Inv-loop μ-loop
 wide-requires c κs = search needs
 
--- src/times.rt:108:13
 start-of-requires : tie.Need-start-of-requires Inv-loop μ-loop
 start-of-requires c κs =
     let i = c .before .before .before .before in
-    let a = begin i in
-    (a .pre .0,
-    (a .pre .1 .0,
-    rw (c .before .before .wide .ensures .0)
-    (waits _ _ _ _ _ _ _ _ _ _ _ (a .pre .1 .1 .1 .1) (long i) (i .before .loop .k) (i .loop-test .taken) (a .pre .0) (i .before .loop .inv .1) (a .pre .1 .1 .0) (a .pre .1 .1 .1 .0))))
+    let a = begin i in (
+      a .pre .0,
+      (
+        a .pre .1 .0,
+        rw (c .before .before .wide .ensures .0)
+            (waits _ _ _ _ _ _ _ _ _ _ _ (a .pre .1 .1 .1 .1) (long i) (i .before .loop .k) (i .loop-test .taken) (a .pre .0) (i .before .loop .inv .1) (a .pre .1 .1 .0) (a .pre .1 .1 .1 .0)),
+      ),
+    )
 
--- src/times.rt:126:22
 mul-place : tie.Need-mul-place Inv-loop μ-loop
 mul-place c = search needs
 
--- src/times.rt:126:22
 element-copy-out-place : tie.Need-element-copy-out-place Inv-loop μ-loop
 element-copy-out-place c = omega (arith, station (c .before .before .before), begin (c .before .before .before .before .before) .pre .0 .chain .few)
 
--- src/times.rt:126:32
 mul-place-2 : tie.Need-mul-place-2 Inv-loop μ-loop
 mul-place-2 c = search needs
 
--- src/times.rt:126:32
 array-read-place : tie.Need-array-read-place Inv-loop μ-loop
 array-read-place c = omega (arith, station (c .before .before .before .before), begin (c .before .before .before .before .before .before) .pre .0 .chain .few)
 
--- src/times.rt:126:22
 add-place : tie.Need-add-place Inv-loop μ-loop
 add-place c = omega (arith, placed (c .before .before .before .before))
 
--- src/times.rt:126:21
 cast-place : tie.Need-cast-place Inv-loop μ-loop
 cast-place c = omega (arith, placed (c .before .before .before .before))
 
--- src/times.rt:127:9
 mul-table : tie.Need-mul-table Inv-loop μ-loop
 mul-table c = omega (arith, placed (c .before .before .before .before))
 
--- src/times.rt:127:9
 array-write-table : tie.Need-array-write-table Inv-loop μ-loop
 array-write-table c = omega (arith, placed (c .before .before .before .before))
 
--- src/times.rt:128:20
 mul-fired : tie.Need-mul-fired Inv-loop μ-loop
 mul-fired c = search needs
 
--- src/times.rt:128:20
 array-read-fired : tie.Need-array-read-fired Inv-loop μ-loop
 array-read-fired c = omega (arith, station (c .before .before .before .before), begin (c .before .before .before .before .before .before) .pre .0 .chain .few)
 
--- src/times.rt:128:20
 add-fired : tie.Need-add-fired Inv-loop μ-loop
 add-fired c = omega (arith, placed (c .before .before .before .before))
 
--- src/times.rt:128:9
 mul-fired-2 : tie.Need-mul-fired-2 Inv-loop μ-loop
 mul-fired-2 c = search needs
 
--- src/times.rt:128:9
 array-write-fired : tie.Need-array-write-fired Inv-loop μ-loop
 array-write-fired c = omega (arith, station (c .before .before .before .before), begin (c .before .before .before .before .before .before) .pre .0 .chain .few)
 
--- src/times.rt:106:9
 add-k : tie.Need-add-k Inv-loop μ-loop
 add-k c = search needs
 
--- src/times.rt:106:5
 loop-less : tie.Need-loop-less Inv-loop μ-loop
 loop-less c = search needs
 
--- src/times.rt:106:5
 loop-again : tie.Need-loop-again Inv-loop μ-loop
 loop-again c =
     let w = c .before .before .before .before in
     let i = w .before .before in
-    let a = begin i in
-    (search needs,
-    rw (begins w, w .wide .ensures .0)
-    (one-more-found _ _ _ _ _ _ _ _ _ _ _ (a .pre .1 .1 .1 .1) (long i) (i .before .loop .k) (i .loop-test .taken) (a .pre .0) (i .before .loop .inv .1) (c .before .start-of .result) (rw (w .wide .ensures .0) at (c .before .start-of .ensures)) (a .pre .0 .chain .few)))
+    let a = begin i in (
+      search needs,
+      rw (begins w, w .wide .ensures .0)
+          (one-more-found _ _ _ _ _ _ _ _ _ _ _ (a .pre .1 .1 .1 .1) (long i) (i .before .loop .k) (i .loop-test .taken) (a .pre .0) (i .before .loop .inv .1) (c .before .start-of .result) (rw (w .wide .ensures .0) at (c .before .start-of .ensures)) (a .pre .0 .chain .few)),
+    )
 
--- src/times.rt:85:1
 returns : tie.Need-returns Inv-loop μ-loop
 returns c =
     let l = c .before in
