@@ -1,4 +1,4 @@
-pub mod StoreLaws
+pub mod SumLaws
 pub mod JoinLaws
 pub mod MarkLaws
 pub mod RateLaws

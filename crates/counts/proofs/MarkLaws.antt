@@ -11,7 +11,8 @@ use Rattle.dataflow.specs.Counts.{sum}
 use Rattle.dataflow.specs.Refusals.{Joined, here, along, against}
 use Rattle.dataflow.proofs.SumLaws.{sum-same, sum-lt}
 use Rattle.counts.specs.Joining.{Ends, endsOf, AllJoined, Marks, Neighbour}
-use Rattle.counts.proofs.StoreLaws.{at-zeros, sum-zeros, sum-ones, after-store, sum-store}
+use Rattle.lists.proofs.StoreLaws.{at-zeros, after-store}
+use Rattle.counts.proofs.SumLaws.{sum-zeros, sum-ones, sum-store}
 use Rattle.counts.proofs.JoinLaws.{joined-through}
 
 -- so many stations are marked, station 0 and none that is not joined to it

@@ -15,7 +15,8 @@ use Rattle.dataflow.proofs.SumLaws.{sum-le, sum-same, sum-above}
 use Rattle.chain.specs.Chain.{Chain}
 use Rattle.counts.specs.Raising.{Ones, Small, Balanced, Raises}
 use Rattle.counts.specs.Smallest.{netOf, Smallest}
-use Rattle.counts.proofs.StoreLaws.{at-zeros, sum-zeros, sum-ones, after-store, sum-store}
+use Rattle.lists.proofs.StoreLaws.{at-zeros, after-store}
+use Rattle.counts.proofs.SumLaws.{sum-zeros, sum-ones, sum-store}
 
 differ : true ≡ false → ⊥
 differ e = let z : _≡_ {A = ℕ} 0 1 = cc in omega arith

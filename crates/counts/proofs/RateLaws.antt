@@ -8,7 +8,7 @@ use lib.ListN.{length, set, length-set}
 use Rattle.lists.specs.Front.{at}
 use Rattle.chain.specs.Chain.{Chain}
 use Rattle.counts.specs.Raising.{QueueFits, Ceiling, Raises, Ones}
-use Rattle.counts.proofs.StoreLaws.{after-store}
+use Rattle.lists.proofs.StoreLaws.{after-store}
 
 pub queue-fits : {n m : ℕ} {source sink produced consumed : List ℕ} → Chain n m source sink produced consumed → (e : ℕ) → e < m → QueueFits source sink produced consumed e
 queue-fits C e h =

@@ -8,12 +8,12 @@ use native.Mathlib.Numerals.{add-one}
 use lib.ListN.{length, set, replicate}
 use lib.Seq.{getD-set-same, getD-set-other}
 use Rattle.lists.specs.Front.{at}
+use Rattle.lists.proofs.StoreLaws.{at-zeros}
 use Rattle.lists.proofs.Order.{order, lt-or-ge}
 use Rattle.dataflow.specs.Counts.{sum}
 use Rattle.dataflow.specs.Search.{none, this, other}
 use Rattle.dataflow.proofs.SumLaws.{sum-before}
-use Rattle.firing.specs.Late.{Readable, endOf, lastEnd, LatestEnd, EndsAfter, LateCounts}
-use Rattle.firing.proofs.RoundLaws.{zeros}
+use Rattle.firing.specs.Late.{Readable, lastEnd, LatestEnd, EndsAfter, LateCounts}
 
 -- a copy's place is within the table
 pub place-of : (n : ℕ) {q base table : List ℕ} → Readable n q base table → (v : ℕ) → v < n → at base v + at q v ≤ 256
@@ -57,7 +57,7 @@ module _ (target from time : ℕ) (table : List ℕ) where
 
 module _ (q time : List ℕ) (target : ℕ) (table : List ℕ) where
   pub no-counts : LateCounts 0 q time target table (replicate 32 0)
-  no-counts = record { many = λ v h. absurd (omega arith); beyond = λ v h. zeros 32 v }
+  no-counts = record { many = λ v h. absurd (omega arith); beyond = λ v h. at-zeros 32 v }
 
   -- one station more
   pub count-more : (v : ℕ) {late : List ℕ} (x : ℕ) → v < length late → EndsAfter target (sum v (at q)) (at time v) (at q v) table x → LateCounts v q time target table late

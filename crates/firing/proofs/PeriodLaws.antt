@@ -25,7 +25,7 @@ use Rattle.chain.specs.Chain.{CountedChain}
 use Rattle.firing.specs.declared.Fired.{Fired}
 use Rattle.firing.specs.Round.{netOf, delaysOf, Rounds}
 use Rattle.firing.specs.Times.{Bases, Ordered, Tabled}
-use Rattle.firing.specs.Late.{Readable, endOf, LatestEnd, LateCounts}
+use Rattle.firing.specs.Late.{Readable, LatestEnd, LateCounts}
 use Rattle.firing.proofs.RoundLaws.{sound}
 
 module _ (n m : ℕ) (source sink produced consumed delay time q : List ℕ) (total : ℕ) where

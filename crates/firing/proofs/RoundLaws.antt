@@ -1,41 +1,35 @@
 -- The laws of firing one round.
-use Prim.Native.Nat.{ℕ, suc, _+_, _*_, _≤_, _<_}
-use mathlib.Core.Path.{_≡_, refl, sym, ap, _∙_}
+use Prim.Native.Nat.{ℕ, _+_, _*_, _≤_, _<_}
+use mathlib.Core.Path.{_≡_, refl, ap, _∙_}
 use mathlib.Core.List.{List, [], _∷_, _++_}
 use mathlib.Core.Logic.{⊎-elim}
 use native.Mathlib.Omega.{arith}
 use native.Mathlib.Numerals.{add-one}
 use native.Mathlib.Decide.{ℕ-discrete}
 use native.Mathlib.Nat.{le-refl}
-use lib.ListN.{length, set, take, replicate, length-set, length-take, getD-replicate, List·getD-eq-default}
+use lib.ListN.{length, set, take, replicate, length-set, length-take}
 use lib.Seq.{take-suc-set, getD-set-same, getD-set-other}
 use Rattle.lists.specs.Front.{at}
+use Rattle.lists.proofs.StoreLaws.{at-zeros}
 use Rattle.lists.proofs.Order.{lt-or-ge}
 use Rattle.dataflow.specs.Net.{Net, Sound}
 use Rattle.dataflow.specs.Runs.{whenever}
 use Rattle.dataflow.specs.Lists.{RoundList}
+use Rattle.dataflow.specs.Sheet.{Below}
 use Rattle.dataflow.specs.Stuck.{Stuck}
 use Rattle.dataflow.proofs.SumLaws.{sum-above}
 use Rattle.dataflow.proofs.SheetLaws.{sheet-sound}
 use Rattle.dataflow.proofs.StallLaws.{stuck-of}
 use Rattle.dataflow.proofs.PrefixLaws.{FedBy, firedBy, fired-more, Prefix, none, prefix-next, prefix-few, prefix-whole, prefix-stalled}
-use Rattle.chain.specs.Chain.{Chain, sheetOf, CountedChain}
+use Rattle.chain.specs.Chain.{sheetOf, CountedChain}
 use Rattle.firing.specs.Scan.{Fed, Can, LowestThatCan}
 use Rattle.firing.specs.Round.{netOf, delaysOf}
-
--- a new list of 0 is 0 everywhere
-pub zeros : (size v : ℕ) → at (replicate size 0) v ≡ 0
-zeros size v =
-    ⊎-elim
-    (λ l. getD-replicate size v 0 0 l)
-    (λ l. List·getD-eq-default (replicate size 0) 0 {n = v} (omega (arith, lib.ListN.length-replicate {A = ℕ} size 0)))
-    (lt-or-ge v size)
 
 module _ (n m : ℕ) (source sink produced consumed delay q : List ℕ) where
   abbrev G : List ℕ → Net
   G time = netOf n m source sink produced consumed time q
 
-  abbrev D : Rattle.dataflow.specs.Sheet.Below m → ℕ
+  abbrev D : Below m → ℕ
   D = delaysOf m delay
 
   -- the list has the firings so far, and fired their numbers
@@ -62,7 +56,7 @@ module _ (n m : ℕ) (source sink produced consumed delay q : List ℕ) where
       })
 
   pub none-fired : SoFar (replicate 256 0) (replicate 32 0) 0
-  none-fired = record { long = refl; wide = refl; prefix = λ time. none; is = λ time v. zeros 32 v; rest = λ i h. zeros 256 i }
+  none-fired = record { long = refl; wide = refl; prefix = λ time. none; is = λ time v. at-zeros 32 v; rest = λ i h. at-zeros 256 i }
 
   -- fed by the numbers in a list, and by those numbers
   module _ (time fired : List ℕ) (F : ℕ → ℕ) (same : (v : ℕ) → at fired v ≡ F v) (v : ℕ) where

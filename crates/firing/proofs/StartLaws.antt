@@ -10,7 +10,7 @@ use Rattle.lists.proofs.Order.{order, lt-or-ge}
 use Rattle.dataflow.specs.Counts.{sum}
 use Rattle.dataflow.specs.Times.{entry}
 use Rattle.dataflow.proofs.SumLaws.{sum-above, sum-before}
-use Rattle.dataflow.proofs.LastLaws.{MakesLast, last-once, HeldByLast, LastStart}
+use Rattle.dataflow.proofs.LastLaws.{MakesLast, last-once, HeldByLast}
 use Rattle.firing.specs.Into.{FirstInto}
 use Rattle.chain.specs.Chain.{CountedChain}
 use Rattle.firing.specs.Round.{netOf, delaysOf}

@@ -1,15 +1,16 @@
 -- The laws of a time table in the making.
-use Prim.Native.Nat.{ℕ, zero, suc, _+_, _-_, _*_, _≤_, _<_, _^_}
+use Prim.Native.Nat.{ℕ, suc, _+_, _-_, _*_, _≤_, _<_, _^_}
 use mathlib.Core.Path.{_≡_, refl, sym, ap, _∙_}
 use mathlib.Core.List.{List, [], _∷_, _++_}
-use mathlib.Core.Logic.{_⊎_, inl, inr, ⊎-elim}
+use mathlib.Core.Logic.{⊎-elim}
 use native.Mathlib.Nat.{mul-le-mul-right, lt-of-mul-lt-mul-right}
 use native.Mathlib.Omega.{arith}
 use native.Mathlib.Numerals.{add-one}
 use native.Mathlib.Decide.{ℕ-discrete}
-use lib.ListN.{length, set, take, drop, getD, length-set, length-take, replicate}
+use lib.ListN.{length, set, take, drop, length-set, length-take, replicate}
 use lib.Seq.{split-at, take-take, getD-take, take-suc, getD-set-same, getD-set-other}
 use Rattle.lists.specs.Front.{at}
+use Rattle.lists.proofs.StoreLaws.{at-zeros}
 use Rattle.lists.proofs.Order.{order, lt-or-ge}
 use Rattle.dataflow.specs.Net.{Net}
 use Rattle.dataflow.specs.Counts.{sum}
@@ -26,7 +27,7 @@ use Rattle.dataflow.proofs.LastLaws.{MakesLast, LastStart, last-same, last-tabl
 use Rattle.chain.specs.Chain.{CountedChain}
 use Rattle.firing.specs.Round.{netOf, delaysOf}
 use Rattle.firing.specs.Times.{Bases, Ordered, Tabled, Waits, StartsAt}
-use Rattle.firing.proofs.RoundLaws.{zeros, sound, by-fed}
+use Rattle.firing.proofs.RoundLaws.{sound, by-fed}
 
 -- firings only add to the numbers of firings done
 after-rises : (G : Net) (S : State G) (l : List ℕ) (u : ℕ) → S .fired u ≤ after G S l .fired u
@@ -62,10 +63,10 @@ module _ (n m : ℕ) (source sink produced consumed delay time q : List ℕ) (to
   none-found = record {
     long = refl;
     wide = refl;
-    is = λ v. zeros 32 v;
-    done = λ v i a b. absurd (omega (arith, zeros 32 v));
-    bound = λ j. omega (arith, zeros 256 j);
-    rest = λ j h. zeros 256 j;
+    is = λ v. at-zeros 32 v;
+    done = λ v i a b. absurd (omega (arith, at-zeros 32 v));
+    bound = λ j. omega (arith, at-zeros 256 j);
+    rest = λ j h. at-zeros 256 j;
   }
 
   module _ (o : Ordered n m source sink produced consumed delay time q total list) (long : total ≤ length list) (k : ℕ) (h : k < total) where

@@ -1,12 +1,11 @@
 -- One round, fired by the ready scan.
-use Prim.Native.Nat.{ℕ, _*_, _≤_, _<_}
+use Prim.Native.Nat.{ℕ, _≤_}
 use mathlib.Core.Path.{_≡_}
 use mathlib.Core.Bool.{true, false}
 use mathlib.Core.List.{List, []}
-use lib.ListN.{length, take, replicate}
+use lib.ListN.{take, replicate}
 use Rattle.lists.specs.Front.{at}
 use Rattle.dataflow.specs.Net.{Net}
-use Rattle.dataflow.specs.Counts.{sum}
 use Rattle.dataflow.specs.Sheet.{Below, net}
 use Rattle.dataflow.specs.Lists.{RoundList}
 use Rattle.dataflow.specs.Stuck.{Stuck}

@@ -1,5 +1,5 @@
 -- The time table of one round, its period, and the late copies of each station.
-use Prim.Native.Nat.{ℕ, _+_, _-_, _*_, _/_, _≤_, _<_, _^_}
+use Prim.Native.Nat.{ℕ, _+_, _-_, _/_, _≤_, _<_, _^_}
 use mathlib.Core.Path.{_≡_}
 use mathlib.Core.List.{List}
 use lib.ListN.{take, length}

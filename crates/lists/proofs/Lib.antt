@@ -4,3 +4,4 @@ pub mod PartLaws
 pub mod JoinedLaws
 pub mod PutLaws
 pub mod TestLaws
+pub mod StoreLaws

@@ -6,7 +6,7 @@ use borrow.Author.Needs.{needs}
 use borrow.Author.Count.{below-none}
 use Rattle.counts.specs.Raising.{Ones}
 use Rattle.counts.proofs.RateLaws.{ones-more}
-use Rattle.counts.proofs.StoreLaws.{at-zeros}
+use Rattle.lists.proofs.StoreLaws.{at-zeros}
 use Rattle.counts.proofs.raising.ones.Statement.{statement}
 use Rattle.counts.proofs.raising.ones.Tie as tie
 

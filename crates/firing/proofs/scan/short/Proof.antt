@@ -1,7 +1,6 @@
 use Prim.Native.Nat.{_+_, _*_, _≤_}
 use native.Mathlib.Nat.{mul-le-mul}
 use native.Mathlib.Omega.{arith}
-use borrow.Author.Needs.{needs}
 use Rattle.lists.proofs.TestLaws.{tells-lt}
 use Rattle.firing.proofs.scan.short.Statement.{statement}
 use Rattle.firing.proofs.scan.short.Tie as tie

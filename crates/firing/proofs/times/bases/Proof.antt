@@ -4,9 +4,9 @@ use native.Mathlib.Omega.{arith}
 use lib.ListN.{length, length-set}
 use borrow.Author.Needs.{needs}
 use Rattle.lists.specs.Front.{at}
+use Rattle.lists.proofs.StoreLaws.{at-zeros}
 use Rattle.dataflow.proofs.SumLaws.{sum-before}
 use Rattle.firing.specs.Times.{Bases}
-use Rattle.firing.proofs.RoundLaws.{zeros}
 use Rattle.firing.proofs.BaseLaws.{bases-more}
 use Rattle.firing.proofs.times.bases.Statement.{statement}
 use Rattle.firing.proofs.times.bases.Tie as tie
@@ -18,7 +18,7 @@ abbrev μ-loop : tie.MeasureT-loop
 μ-loop n q base₀ v₀ base v = n - v
 
 loop-holds : tie.Need-loop-holds Inv-loop μ-loop
-loop-holds c = (search needs, (refl, record { is = λ v l. zeros 33 v ∙ (let e : v ≡ 0 = omega arith in rw e); rest = λ v l. zeros 33 v }))
+loop-holds c = (search needs, (refl, record { is = λ v l. at-zeros 33 v ∙ (let e : v ≡ 0 = omega arith in rw e); rest = λ v l. at-zeros 33 v }))
 
 mul-base : tie.Need-mul-base Inv-loop μ-loop
 mul-base c = search needs
