@@ -1,4 +1,5 @@
 // Questions on standard input, answers on standard output.
+mod planning;
 mod reading;
 mod writing;
 
@@ -10,6 +11,7 @@ use libc::STDIN_FILENO;
 // The answer to a question of a kind, or that it can't be taken apart.
 fn answer(kind: u8, body: &[u8]) {
     match kind {
+        1 => planning::answer(body),
         3 => reading::answer(body),
         4 => writing::answer(body),
         _ => print::text(b"malformed\n"),

@@ -1,1 +1,4 @@
-// The columns that the planner's routines are lent, as a sheet of the dataflow; no function.
+// The columns that the planner's routines are lent.
+mod columns;
+
+pub use columns::widen;

@@ -1,6 +1,6 @@
--- The answers as rows 6 and 7 of the table, for a sheet with these columns.
+-- The answers as rows 6 and 7 of the table, for a sheet with these columns, and what they give to the routines that follow.
 use Prim.Native.Nat.{ℕ}
-use mathlib.Core.Path.{_≡_}
+use mathlib.Core.Path.{_≡_, sym}
 use mathlib.Core.Bool.{Bool, true, false}
 use mathlib.Core.List.{List}
 use native.Mathlib.Omega.{arith}
@@ -10,7 +10,8 @@ use Rattle.dataflow.specs.Counts.{Counts}
 use Rattle.dataflow.specs.Refusals.{Joined, here, along, against, apartRow, countsRow}
 use Rattle.dataflow.specs.Sheet.{Sheet, net}
 use Rattle.counts.specs.declared.Counted.{Counted}
-use Rattle.counts.specs.Joining.{endsOf, AllJoined}
+use Rattle.chain.specs.Chain.{Chain, CountedChain}
+use Rattle.counts.specs.Joining.{Ends, endsOf, AllJoined}
 use Rattle.counts.specs.Smallest.{Smallest}
 
 module _ (s : Sheet) (q : List ℕ) where
@@ -47,3 +48,24 @@ module _ (s : Sheet) (q : List ℕ) where
 
     pub counts-fail-applies : r .fits ≡ false → countsRow (net s q) .applies 0
     counts-fail-applies f x b = S .fails f x (record { positive = b .positive; balanced = b .balanced })
+
+-- a chain with the counts that fit it
+module _ {n m : ℕ} {source sink produced consumed : List ℕ} (chain : Chain n m source sink produced consumed) where
+  pub chain-ends : Ends n m source sink
+  chain-ends = record {
+    some = chain .some;
+    few = chain .few;
+    few-queues = chain .few-queues;
+    leaves = chain .leaves;
+    enters = chain .enters;
+  }
+
+  pub counted-chain : {r : Counted} → Smallest n m source sink produced consumed r → r .fits ≡ true → CountedChain n m source sink produced consumed (r .q) (r .total)
+  counted-chain S t = record {
+    chain = chain;
+    positive = S .counts t .balances .positive;
+    beyond = S .beyond;
+    balanced = λ e h. S .counts t .balances .balanced (e, h);
+    adds = sym (S .total);
+    few = S .most;
+  }

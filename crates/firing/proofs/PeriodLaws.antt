@@ -1,11 +1,11 @@
 -- What the routines find, by the definitions: the round list fires a round, and the time table tells the period and the late copies.
-use Prim.Native.Nat.{ℕ, _+_, _≤_, _<_}
+use Prim.Native.Nat.{ℕ, _+_, _<_}
 use mathlib.Core.Path.{_≡_}
 use mathlib.Core.Bool.{true}
 use mathlib.Core.List.{List}
 use mathlib.Core.Logic.{⊎-elim}
 use native.Mathlib.Omega.{arith}
-use lib.ListN.{length, take}
+use lib.ListN.{length, take, length-take}
 use Rattle.lists.specs.Front.{at}
 use Rattle.lists.proofs.Order.{lt-or-ge}
 use Rattle.dataflow.specs.Net.{Net, Sound}
@@ -16,7 +16,7 @@ use Rattle.dataflow.specs.Sheet.{Below}
 use Rattle.dataflow.specs.Times.{entry}
 use Rattle.dataflow.proofs.CopyLaws.{copy-station}
 use Rattle.dataflow.proofs.LateLaws.{many-same}
-use Rattle.dataflow.proofs.ListLaws.{list-run, list-fired}
+use Rattle.dataflow.proofs.ListLaws.{list-run, list-fired, round-length}
 use Rattle.dataflow.proofs.PathLaws.{path-end}
 use Rattle.dataflow.proofs.RankLaws.{Ranked, round-ranked}
 use Rattle.dataflow.proofs.SumTable.{Sums}
@@ -28,6 +28,31 @@ use Rattle.firing.specs.Times.{Bases, Ordered, Tabled}
 use Rattle.firing.specs.Late.{Readable, LatestEnd, LateCounts}
 use Rattle.firing.proofs.RoundLaws.{sound}
 
+module _ {n m : ℕ} {source sink produced consumed delay q : List ℕ} {total : ℕ} (c : CountedChain n m source sink produced consumed q total) where
+  -- the list of a round that fires is an order for the time table
+  pub rounds-ordered : {r : Fired} (time : List ℕ) → Rounds n m source sink produced consumed delay q total r → r .fires ≡ true
+      → Ordered n m source sink produced consumed delay time q total (r .list)
+  rounds-ordered {r} time R t =
+      let l = take total (r .list) in
+      let G = netOf n m source sink produced consumed time q in
+      let D = delaysOf m delay in
+      record {
+        long = omega (arith, length-take total (r .list), round-length G D l (R .list t time), c .adds);
+        run = list-run G (at q) (R .list t time);
+        whole = list-fired G (at q) (R .list t time);
+      }
+
+  -- the time table can be read for the period and the late copies
+  pub table-readable : {time base table : List ℕ} → Bases n q base → Tabled n m source sink produced consumed delay time q total table → Readable n q base table
+  table-readable b t = record {
+    some = c .chain .some;
+    few = c .chain .few;
+    positive = c .positive;
+    begins = b;
+    fits = omega (arith, c .adds, c .few);
+    starts = t .starts;
+  }
+
 module _ (n m : ℕ) (source sink produced consumed delay time q : List ℕ) (total : ℕ) where
   abbrev G : Net
   G = netOf n m source sink produced consumed time q
@@ -35,23 +60,7 @@ module _ (n m : ℕ) (source sink produced consumed delay time q : List ℕ) (to
   abbrev D : Below m → ℕ
   D = delaysOf m delay
 
-  -- the round list is an order in which the round can be fired
-  pub rounds-ordered : (r : Fired) → total ≤ length (r .list) → Rounds n m source sink produced consumed delay q total r → r .fires ≡ true
-      → Ordered n m source sink produced consumed delay time q total (r .list)
-  rounds-ordered r long R t = let l = R .list t time in record { long = long; run = list-run G (at q) l; whole = list-fired G (at q) l }
-
   module _ (c : CountedChain n m source sink produced consumed q total) where
-    -- its table can be read for the period and the late copies
-    pub table-readable : {base table : List ℕ} → Bases n q base → Tabled n m source sink produced consumed delay time q total table → Readable n q base table
-    table-readable b t = record {
-      some = c .chain .some;
-      few = c .chain .few;
-      positive = c .positive;
-      begins = b;
-      fits = omega (arith, c .adds, c .few);
-      starts = t .starts;
-    }
-
     W : Sound G
     W = sound n m source sink produced consumed delay q c time
 
