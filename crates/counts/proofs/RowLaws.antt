@@ -11,7 +11,7 @@ use Rattle.dataflow.specs.Refusals.{Joined, here, along, against, apartRow, cou
 use Rattle.dataflow.specs.Sheet.{Sheet, net}
 use Rattle.counts.specs.declared.Counted.{Counted}
 use Rattle.chain.specs.Chain.{Chain, CountedChain}
-use Rattle.counts.specs.Joining.{Ends, endsOf, AllJoined}
+use Rattle.counts.specs.Joining.{endsOf, AllJoined}
 use Rattle.counts.specs.Smallest.{Smallest}
 
 module _ (s : Sheet) (q : List ℕ) where
@@ -51,15 +51,6 @@ module _ (s : Sheet) (q : List ℕ) where
 
 -- a chain with the counts that fit it
 module _ {n m : ℕ} {source sink produced consumed : List ℕ} (chain : Chain n m source sink produced consumed) where
-  pub chain-ends : Ends n m source sink
-  chain-ends = record {
-    some = chain .some;
-    few = chain .few;
-    few-queues = chain .few-queues;
-    leaves = chain .leaves;
-    enters = chain .enters;
-  }
-
   pub counted-chain : {r : Counted} → Smallest n m source sink produced consumed r → r .fits ≡ true → CountedChain n m source sink produced consumed (r .q) (r .total)
   counted-chain S t = record {
     chain = chain;

@@ -24,8 +24,8 @@ use Rattle.dataflow.proofs.TimeLaws.{sums-rise, table-sums}
 use Rattle.chain.specs.Chain.{CountedChain}
 use Rattle.firing.specs.declared.Fired.{Fired}
 use Rattle.firing.specs.Round.{netOf, delaysOf, Rounds}
-use Rattle.firing.specs.Times.{Bases, Ordered, Tabled}
-use Rattle.firing.specs.Late.{Readable, LatestEnd, LateCounts}
+use Rattle.firing.specs.Times.{Ordered, Tabled}
+use Rattle.firing.specs.Late.{LatestEnd, LateCounts}
 use Rattle.firing.proofs.RoundLaws.{sound}
 
 module _ {n m : ℕ} {source sink produced consumed delay q : List ℕ} {total : ℕ} (c : CountedChain n m source sink produced consumed q total) where
@@ -41,17 +41,6 @@ module _ {n m : ℕ} {source sink produced consumed delay q : List ℕ} {total :
         run = list-run G (at q) (R .list t time);
         whole = list-fired G (at q) (R .list t time);
       }
-
-  -- the time table can be read for the period and the late copies
-  pub table-readable : {time base table : List ℕ} → Bases n q base → Tabled n m source sink produced consumed delay time q total table → Readable n q base table
-  table-readable b t = record {
-    some = c .chain .some;
-    few = c .chain .few;
-    positive = c .positive;
-    begins = b;
-    fits = omega (arith, c .adds, c .few);
-    starts = t .starts;
-  }
 
 module _ (n m : ℕ) (source sink produced consumed delay time q : List ℕ) (total : ℕ) where
   abbrev G : Net

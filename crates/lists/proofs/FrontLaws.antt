@@ -6,6 +6,7 @@ use native.Mathlib.Nat.{not-suc-le-zero, le-of-suc-le-suc}
 use native.Mathlib.Numerals.{add-one}
 use native.Mathlib.Omega.{arith}
 use lib.ListN.{length, set, length-append, length-drop, drop, List·getD-append}
+use lib.Seq.{getD-append-add, getD-drop}
 use Rattle.lists.specs.Front.{at, table, front}
 
 pub length-table : (n : ℕ) (f : ℕ → ℕ) → length (table n f) ≡ n
@@ -51,3 +52,8 @@ length-front n f l h = simp (length-append, length-table, length-drop) (omega ar
 pub at-front : (n : ℕ) (f : ℕ → ℕ) (l : List ℕ) (k : ℕ) → k < n → at (front n f l) k ≡ f k
 unfolding front
 at-front n f l k h = List·getD-append (table n f) (drop n l) 0 k (rw length-table h) ∙ at-table n f k h
+
+-- behind what is written over its first entries a list is as it was
+pub front-rest : (n : ℕ) (f : ℕ → ℕ) (l : List ℕ) (i : ℕ) → at (front n f l) (n + i) ≡ at l (n + i)
+unfolding front
+front-rest n f l i = (rw (length-table n f) at (getD-append-add (table n f) (drop n l) i 0)) ∙ getD-drop n l i 0

@@ -1,17 +1,21 @@
 -- The laws of reading.
-use Prim.Native.Nat.{ℕ, _≤_, _<_}
-use mathlib.Core.Path.{_≡_, refl}
+use Prim.Native.Nat.{ℕ, _+_, _-_, _≤_, _<_}
+use mathlib.Core.Path.{_≡_, refl, _∙_}
 use mathlib.Core.List.{List, [], _∷_}
 use native.Mathlib.Omega.{arith}
+use lib.ListN.{replicate}
+use Rattle.lists.specs.Front.{at}
 use Rattle.lists.specs.Lowest.{LowestFailing}
+use Rattle.lists.proofs.FrontLaws.{front-rest}
+use Rattle.lists.proofs.StoreLaws.{at-zeros}
 use Rattle.lists.proofs.Order.{le-stable, eq-stable}
 use Rattle.refusals.specs.Table.{number}
 use Rattle.refusals.specs.First.{First}
 use Rattle.refusals.proofs.FirstLaws.{here, passed, none, extend, append, all-passed}
 use Rattle.sheet.specs.declared.Sheet.{Sheet}
 use Rattle.sheet.specs.declared.Reading.{Reading}
-use Rattle.sheet.specs.Limits.{CountsFit, SheetQueueFits}
-use Rattle.sheet.specs.Format.{version, sheetOf}
+use Rattle.sheet.specs.Limits.{CountsFit, QueueFits, SheetQueueFits}
+use Rattle.sheet.specs.Format.{version, padded, sheetOf}
 use Rattle.sheet.specs.Read.{HeaderFits, Laid, Passes, headerRows, fieldRow, readRows, blank, Reads}
 
 header-stable : (s : List ℕ) → ((HeaderFits s → ⊥) → ⊥) → HeaderFits s
@@ -79,3 +83,26 @@ reads-refused s k p f n e = rw e (record { verdict = f; accepted = λ z. absurd 
 pub accepted-counts : (s : List ℕ) (r : Reading) → Reads s r → r .number ≡ 0 → CountsFit (r .sheet .n) (r .sheet .m)
 unfolding sheetOf
 accepted-counts s r q e = rw (q .accepted e) (passes-read s (q .verdict) e .header .counts)
+
+fits-stable : {n source sink produced consumed delay : ℕ} → ((QueueFits n source sink produced consumed delay → ⊥) → ⊥) → QueueFits n source sink produced consumed delay
+fits-stable h = record {
+  from = le-stable (λ x. h (λ f. x (f .from)));
+  to = le-stable (λ x. h (λ f. x (f .to)));
+  makes = le-stable (λ x. h (λ f. x (f .makes)));
+  makes-most = le-stable (λ x. h (λ f. x (f .makes-most)));
+  takes = le-stable (λ x. h (λ f. x (f .takes)));
+  takes-most = le-stable (λ x. h (λ f. x (f .takes-most)));
+  holds-most = le-stable (λ x. h (λ f. x (f .holds-most)));
+}
+
+-- and so is each of its queues
+pub accepted-queues : (s : List ℕ) (r : Reading) → Reads s r → r .number ≡ 0 → (e : ℕ) → e < r .sheet .m → SheetQueueFits (r .sheet) e
+accepted-queues s r q ok e h = let passed = all-passed (q .verdict) ok 4 (omega arith) e in fits-stable (λ x. (rw (← q .accepted ok) at passed) (h, x))
+
+padded-rest : (n : ℕ) (f : ℕ → ℕ) (size k : ℕ) → n ≤ k → at (padded size n f) k ≡ 0
+padded-rest n f size k h = let e : k ≡ n + (k - n) = omega arith in rw e (front-rest n f (replicate size 0) (k - n) ∙ at-zeros size (n + (k - n)))
+
+-- no delay stands behind the last queue
+pub accepted-rest : (s : List ℕ) (r : Reading) → Reads s r → r .number ≡ 0 → (e : ℕ) → r .sheet .m ≤ e → at (r .sheet .delay) e ≡ 0
+unfolding sheetOf
+accepted-rest s r q ok e h = rw (q .accepted ok) (padded-rest _ _ 64 e (rw (q .accepted ok) at h))
