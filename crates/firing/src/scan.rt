@@ -7,7 +7,7 @@ ghost use Rattle.firing.specs.Scan.{Can, LowestThatCan, Small};
 use crate::wide;
 use crate::wide32;
 
-// A queue holds fewer tokens than one more firing of its sink takes.
+// A queue holds fewer tokens than one more firing of its sink takes. Two products.
 fn short(delay: u32, made: u32, produced: u32, taken: u32, consumed: u32) -> bool
     requires { ⌜ (delay < 2 ^ 30) × ((made ≤ 65536) × ((produced ≤ 64) × ((taken ≤ 65536) × (consumed ≤ 64)))) ⌝ }
     ensures { λ r. ⌜ Tells r (delay + made * produced < (taken + 1) * consumed) ⌝ }

@@ -22,7 +22,7 @@ pub fn bases(n: usize, q: &[u32; 32]) -> [u32; 33]
     base
 }
 
-// The number of the last token that the next firing of a station takes from a queue, counted from its first firing on.
+// The number of the last token that the next firing of a station takes from a queue, counted from its first firing on. One product.
 fn last_token(fired: u32, consumed: u32) -> u32
     requires { ⌜ (fired ≤ 256) × (consumed ≤ 64) ⌝ }
     ensures { λ r. ⌜ r ≡ (fired + 1) * consumed ⌝ }
@@ -30,7 +30,7 @@ fn last_token(fired: u32, consumed: u32) -> u32
     (fired + 1) * consumed
 }
 
-// How long one queue holds a copy up that needs this many tokens of it in all.
+// How long one queue holds a copy up that needs this many tokens of it in all. One division.
 fn held(delay: u32, needed: u32, produced: u32, base: u32, time: u32, table: &[u32; 256]) -> u32
     requires { ⌜ HeldSmall delay needed produced base (now table) × (time < 65536) ⌝ }
     ensures { λ r. ⌜ HoldsUp delay needed produced base time (now (table .entry)) r ⌝ }
