@@ -1,4 +1,6 @@
 // The columns that the planner's routines are lent.
 mod columns;
 
+pub use columns::wide;
+pub use columns::wide32;
 pub use columns::widen;

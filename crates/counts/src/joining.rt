@@ -1,7 +1,7 @@
 // Whether the stations are joined, directions ignored.
 ghost use Rattle.lists.specs.Test.{Tells};
 ghost use Rattle.counts.specs.Joining.{Ends, AllJoined, Marks, Neighbour};
-use crate::wide;
+use chain::wide;
 
 // A station that is not marked, at a queue whose other end is, or n where no queue has just one marked end.
 // One scan of at most m queues.

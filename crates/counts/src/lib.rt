@@ -1,7 +1,4 @@
 // Whether the stations are joined, and their smallest counts: refusals 6 and 7.
-ghost use mathlib.Core.Path.{_≡_};
-ghost use Prim.Native.Nat.{_<_};
-
 mod joining;
 mod raising;
 
@@ -13,10 +10,4 @@ pub struct Counted {
     pub fits: bool,
     pub total: usize,
     pub q: [u16; 32],
-}
-
-pub(crate) fn wide(x: u16) -> usize
-    ensures { λ r. ⌜ (r ≡ x) × (r < 65536) ⌝ }
-{
-    x as usize
 }

@@ -7,7 +7,7 @@ ghost use Rattle.chain.specs.Chain.{Chain};
 ghost use Rattle.counts.specs.Raising.{Balanced, Small, EndFits, QueueFits, Ceiling, Raises, Ones};
 ghost use Rattle.counts.specs.Smallest.{Smallest};
 use crate::Counted;
-use crate::wide;
+use chain::wide;
 
 // A station, and the count that it is raised to.
 struct Rise {

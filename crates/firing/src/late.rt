@@ -3,7 +3,7 @@ ghost use Prim.Native.Nat.{ℕ, _+_, _≤_, _<_};
 ghost use Rattle.lists.specs.Front.{at};
 ghost use Rattle.firing.specs.Late.{Readable, LatestEnd, EndsAfter, LateCounts};
 use crate::later;
-use crate::wide32;
+use chain::wide32;
 
 // The latest finish, which is that of the last copy of some station. One step for each station.
 pub fn latest_end(

@@ -1,6 +1,6 @@
 // Firing a round, and the time table of its copies.
 ghost use mathlib.Core.Path.{_≡_};
-ghost use Prim.Native.Nat.{_<_, max};
+ghost use Prim.Native.Nat.{max};
 
 mod late;
 mod round;
@@ -26,18 +26,6 @@ pub struct Threaded {
 pub struct Fired {
     pub fires: bool,
     pub list: [u16; 256],
-}
-
-pub(crate) fn wide(x: u16) -> usize
-    ensures { λ r. ⌜ (r ≡ x) × (r < 65536) ⌝ }
-{
-    x as usize
-}
-
-pub(crate) fn wide32(x: u16) -> u32
-    ensures { λ r. ⌜ (r ≡ x) × (r < 65536) ⌝ }
-{
-    x as u32
 }
 
 pub(crate) fn later(a: u32, b: u32) -> u32

@@ -4,8 +4,8 @@ ghost use Rattle.lists.specs.Test.{Tells};
 ghost use Rattle.chain.specs.Chain.{Chain};
 ghost use Rattle.firing.specs.Into.{Threads};
 ghost use Rattle.firing.specs.Scan.{Can, LowestThatCan, Small};
-use crate::wide;
-use crate::wide32;
+use chain::wide;
+use chain::wide32;
 
 // A queue holds fewer tokens than one more firing of its sink takes. Two products.
 fn short(delay: u32, made: u32, produced: u32, taken: u32, consumed: u32) -> bool

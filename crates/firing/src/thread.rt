@@ -2,7 +2,7 @@
 ghost use Rattle.chain.specs.Chain.{Chain};
 ghost use Rattle.firing.specs.Into.{Threads};
 use crate::Threaded;
-use crate::wide;
+use chain::wide;
 
 // One pass over the queues.
 pub fn threads(

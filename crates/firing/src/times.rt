@@ -7,8 +7,8 @@ ghost use Rattle.firing.specs.Into.{Threads};
 ghost use Rattle.chain.specs.Chain.{CountedChain};
 ghost use Rattle.firing.specs.Times.{Bases, HoldsUp, HeldSmall, Waits, StartsAt, Ordered, Tabled};
 use crate::later;
-use crate::wide;
-use crate::wide32;
+use chain::wide;
+use chain::wide32;
 
 // Where the copies of each station begin in the time table. One pass over the stations.
 pub fn bases(n: usize, q: &[u32; 32]) -> [u32; 33]
