@@ -90,7 +90,7 @@ fn fire(
 )
     requires { ⌜ CountedChain n m (now source) (now sink) (now produced) (now consumed) (now q) total × ((e : ℕ) → at (now delay) e < 2 ^ 30) ⌝ }
 {
-    let threaded = firing::threads(n, m, source, sink, produced, consumed);
+    let threaded = firing::threads(n, m, sink);
     let head = threaded.head;
     let next = threaded.next;
     let fired = firing::fire_round(

@@ -1,14 +1,15 @@
 -- A chain of stations as the planner's routines are lent it: n stations, m queues, and a column for each field.
 use Prim.Native.Nat.{ℕ, _*_, _≤_, _<_}
 use mathlib.Core.Path.{_≡_}
-use mathlib.Core.List.{List}
+use mathlib.Core.List.{List, []}
 use Rattle.lists.specs.Front.{at}
+use Rattle.dataflow.specs.Net.{Net}
 use Rattle.dataflow.specs.Counts.{sum}
-use Rattle.dataflow.specs.Sheet.{Sheet}
+use Rattle.dataflow.specs.Sheet.{Sheet, Below, net}
 
--- the sheet of these columns; where an argument plays no part it is [] or 0
-abbrev pub sheetOf : (n m : ℕ) (source sink produced consumed delay time : List ℕ) → Sheet
-sheetOf n m source sink produced consumed delay time = record {
+-- the sheet of these columns, in which no delay and no target plays a part
+abbrev pub sheetOf : (n m : ℕ) (source sink produced consumed time : List ℕ) → Sheet
+sheetOf n m source sink produced consumed time = record {
   stations = n;
   queues = m;
   time = time;
@@ -16,9 +17,17 @@ sheetOf n m source sink produced consumed delay time = record {
   sink = sink;
   produced = produced;
   consumed = consumed;
-  delay = delay;
+  delay = [];
   target = 0;
 }
+
+-- its net; a column or counts that play no part are []
+abbrev pub netOf : (n m : ℕ) (source sink produced consumed time q : List ℕ) → Net
+netOf n m source sink produced consumed time q = net (sheetOf n m source sink produced consumed time) q
+
+-- a column of delays, by queues
+abbrev pub delaysOf : (m : ℕ) (delay : List ℕ) → Below m → ℕ
+delaysOf m delay e = at delay (e .0)
 
 -- n and m are within limits, each queue joins two stations, and its rates are within limits
 pub record Chain (n m : ℕ) (source sink produced consumed : List ℕ) : Type 0 where

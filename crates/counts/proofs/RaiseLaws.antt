@@ -2,7 +2,7 @@
 use Prim.Native.Nat.{ℕ, _+_, _-_, _≤_, _<_}
 use mathlib.Core.Path.{_≡_, sym, _∙_}
 use mathlib.Core.Bool.{true, false}
-use mathlib.Core.List.{List}
+use mathlib.Core.List.{List, []}
 use mathlib.Core.Logic.{⊎-elim}
 use native.Mathlib.Omega.{arith}
 use lib.ListN.{length, set, replicate, length-set, length-replicate}
@@ -12,9 +12,9 @@ use Rattle.lists.proofs.Order.{lt-or-ge}
 use Rattle.dataflow.specs.Net.{Balances}
 use Rattle.dataflow.specs.Counts.{sum}
 use Rattle.dataflow.proofs.SumLaws.{sum-le, sum-same, sum-above}
-use Rattle.chain.specs.Chain.{Chain}
+use Rattle.chain.specs.Chain.{Chain, netOf}
 use Rattle.counts.specs.Raising.{Ones, Small, Balanced, Raises}
-use Rattle.counts.specs.Smallest.{netOf, Smallest}
+use Rattle.counts.specs.Smallest.{Smallest}
 use Rattle.lists.proofs.StoreLaws.{at-zeros, after-store}
 use Rattle.counts.proofs.SumLaws.{sum-zeros, sum-ones, sum-store}
 
@@ -27,7 +27,7 @@ pub record Raising (n m : ℕ) (source sink produced consumed q : List ℕ) (tot
   pub some : (v : ℕ) → v < n → 1 ≤ at q v
   pub beyond : (v : ℕ) → n ≤ v → at q v ≡ 0
   pub counted : total ≡ sum n (at q)
-  pub below : (x : ℕ → ℕ) → Balances (netOf n m source sink produced consumed) x → (v : ℕ) → at q v ≤ x v
+  pub below : (x : ℕ → ℕ) → Balances (netOf n m source sink produced consumed [] []) x → (v : ℕ) → at q v ≤ x v
 
 module _ (n m : ℕ) (source sink produced consumed q : List ℕ) where
   pub raise-begin : Ones n q → Raising n m source sink produced consumed q n

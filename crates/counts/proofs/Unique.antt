@@ -2,7 +2,7 @@
 use Prim.Native.Nat.{ℕ}
 use mathlib.Core.Path.{_≡_, refl, sym, ap, _∙_}
 use mathlib.Core.Bool.{Bool, true, false}
-use mathlib.Core.List.{List}
+use mathlib.Core.List.{List, []}
 use mathlib.Core.Logic.{⊎-elim}
 use native.Mathlib.Omega.{arith}
 use lib.Seq.{ext-getD}
@@ -13,7 +13,8 @@ use Rattle.dataflow.specs.Counts.{sum}
 use Rattle.dataflow.proofs.CountLaws.{counts-once}
 use Rattle.counts.specs.declared.Counted.{Counted}
 use Rattle.counts.specs.Joining.{AllJoined}
-use Rattle.counts.specs.Smallest.{netOf, Smallest}
+use Rattle.chain.specs.Chain.{netOf}
+use Rattle.counts.specs.Smallest.{Smallest}
 
 -- of the test whether the stations are joined
 pub joined-unique : (n m : ℕ) (source sink : List ℕ) (r r′ : Bool) → Tells r (AllJoined n m source sink) → Tells r′ (AllJoined n m source sink) → r ≡ r′
@@ -34,7 +35,7 @@ module _ (n m : ℕ) (source sink produced consumed : List ℕ) where
   same-entries r r′ p q true true t t′ = (
     refl,
     λ v.
-        ⊎-elim (counts-once (netOf n m source sink produced consumed) _ _ (p .counts t) (q .counts t′) v) (λ h. p .beyond v h ∙ sym (q .beyond v h)) (lt-or-ge v n),
+        ⊎-elim (counts-once (netOf n m source sink produced consumed [] []) _ _ (p .counts t) (q .counts t′) v) (λ h. p .beyond v h ∙ sym (q .beyond v h)) (lt-or-ge v n),
   )
   same-entries r r′ p q true false t f = absurd (clash r r′ p q t f)
   same-entries r r′ p q false true f t = absurd (clash r′ r q p t f)

@@ -6,8 +6,7 @@ use mathlib.Core.Logic.{_⊎_}
 use Rattle.lists.specs.Front.{at}
 use Rattle.dataflow.specs.Net.{Net}
 use Rattle.dataflow.specs.Refusals.{Joined}
-use Rattle.dataflow.specs.Sheet.{net}
-use Rattle.chain.specs.Chain.{sheetOf}
+use Rattle.chain.specs.Chain.{netOf}
 
 -- n and m are within limits, and each queue joins two stations
 pub record Ends (n m : ℕ) (source sink : List ℕ) : Type 0 where
@@ -19,7 +18,7 @@ pub record Ends (n m : ℕ) (source sink : List ℕ) : Type 0 where
 
 -- the net of these queues, in which nothing but their ends plays a part
 abbrev pub endsOf : (n m : ℕ) (source sink : List ℕ) → Net
-endsOf n m source sink = net (sheetOf n m source sink [] [] [] []) []
+endsOf n m source sink = netOf n m source sink [] [] [] []
 
 -- any two stations are joined, directions ignored
 abbrev pub AllJoined : (n m : ℕ) (source sink : List ℕ) → Type 0

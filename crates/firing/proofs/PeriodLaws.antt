@@ -21,9 +21,9 @@ use Rattle.dataflow.proofs.PathLaws.{path-end}
 use Rattle.dataflow.proofs.RankLaws.{Ranked, round-ranked}
 use Rattle.dataflow.proofs.SumTable.{Sums}
 use Rattle.dataflow.proofs.TimeLaws.{sums-rise, table-sums}
-use Rattle.chain.specs.Chain.{CountedChain}
+use Rattle.chain.specs.Chain.{CountedChain, netOf, delaysOf}
 use Rattle.firing.specs.declared.Fired.{Fired}
-use Rattle.firing.specs.Round.{netOf, delaysOf, Rounds}
+use Rattle.firing.specs.Round.{Rounds}
 use Rattle.firing.specs.Times.{Ordered, Tabled}
 use Rattle.firing.specs.Late.{LatestEnd, LateCounts}
 use Rattle.firing.proofs.RoundLaws.{sound}

@@ -21,9 +21,8 @@ use Rattle.dataflow.proofs.SumLaws.{sum-above}
 use Rattle.dataflow.proofs.SheetLaws.{sheet-sound}
 use Rattle.dataflow.proofs.StallLaws.{stuck-of}
 use Rattle.dataflow.proofs.PrefixLaws.{FedBy, firedBy, fired-more, Prefix, none, prefix-next, prefix-few, prefix-whole, prefix-stalled}
-use Rattle.chain.specs.Chain.{sheetOf, CountedChain}
+use Rattle.chain.specs.Chain.{sheetOf, CountedChain, netOf, delaysOf}
 use Rattle.firing.specs.Scan.{Fed, Can, LowestThatCan}
-use Rattle.firing.specs.Round.{netOf, delaysOf}
 
 module _ (n m : ℕ) (source sink produced consumed delay q : List ℕ) where
   abbrev G : List ℕ → Net
@@ -42,7 +41,7 @@ module _ (n m : ℕ) (source sink produced consumed delay q : List ℕ) where
 
   pub sound : {total : ℕ} → CountedChain n m source sink produced consumed q total → (time : List ℕ) → Sound (G time)
   sound c time =
-      sheet-sound (sheetOf n m source sink produced consumed [] time) q
+      sheet-sound (sheetOf n m source sink produced consumed time) q
       (record {
         beyond = c .beyond;
         positive = c .positive;

@@ -12,8 +12,7 @@ use Rattle.dataflow.specs.Times.{entry}
 use Rattle.dataflow.proofs.SumLaws.{sum-above, sum-before}
 use Rattle.dataflow.proofs.LastLaws.{MakesLast, last-once, HeldByLast}
 use Rattle.firing.specs.Into.{FirstInto}
-use Rattle.chain.specs.Chain.{CountedChain}
-use Rattle.firing.specs.Round.{netOf, delaysOf}
+use Rattle.chain.specs.Chain.{CountedChain, netOf, delaysOf}
 use Rattle.firing.specs.Times.{HoldsUp, HeldSmall, Waits, StartsAt}
 
 -- the firing that makes the last token, by a division

@@ -24,8 +24,7 @@ use Rattle.dataflow.proofs.TakenLaws.{after-append, run-front, run-rest, run-re
 use Rattle.dataflow.proofs.PrefixLaws.{firedBy, fired-more}
 use Rattle.dataflow.proofs.RankLaws.{round-ranked}
 use Rattle.dataflow.proofs.LastLaws.{MakesLast, LastStart, last-same, last-table}
-use Rattle.chain.specs.Chain.{CountedChain}
-use Rattle.firing.specs.Round.{netOf, delaysOf}
+use Rattle.chain.specs.Chain.{CountedChain, netOf, delaysOf}
 use Rattle.firing.specs.Times.{Bases, Ordered, Tabled, Waits, StartsAt}
 use Rattle.firing.proofs.RoundLaws.{sound, by-fed}
 

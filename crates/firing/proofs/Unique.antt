@@ -15,11 +15,11 @@ use Rattle.dataflow.proofs.ListLaws.{list-run, list-fired, list-once}
 use Rattle.dataflow.proofs.StuckLaws.{stuck-cannot-fire}
 use Rattle.dataflow.proofs.SumLaws.{sum-place}
 use Rattle.dataflow.proofs.TimeLaws.{times-once}
-use Rattle.chain.specs.Chain.{CountedChain}
+use Rattle.chain.specs.Chain.{CountedChain, netOf, delaysOf}
 use Rattle.firing.specs.declared.Fired.{Fired}
 use Rattle.firing.specs.Into.{FirstInto, Threads}
 use Rattle.firing.specs.Scan.{LowestThatCan}
-use Rattle.firing.specs.Round.{netOf, delaysOf, Rounds}
+use Rattle.firing.specs.Round.{Rounds}
 use Rattle.firing.specs.Times.{Bases, Ordered, Tabled}
 use Rattle.firing.specs.Late.{LatestEnd, LateCounts}
 use Rattle.firing.proofs.RoundLaws.{sound}

@@ -2,23 +2,13 @@
 use Prim.Native.Nat.{ℕ, _≤_}
 use mathlib.Core.Path.{_≡_}
 use mathlib.Core.Bool.{true, false}
-use mathlib.Core.List.{List, []}
+use mathlib.Core.List.{List}
 use lib.ListN.{take, replicate}
 use Rattle.lists.specs.Front.{at}
-use Rattle.dataflow.specs.Net.{Net}
-use Rattle.dataflow.specs.Sheet.{Below, net}
 use Rattle.dataflow.specs.Lists.{RoundList}
 use Rattle.dataflow.specs.Stuck.{Stuck}
-use Rattle.chain.specs.Chain.{sheetOf}
+use Rattle.chain.specs.Chain.{netOf, delaysOf}
 use Rattle.firing.specs.declared.Fired.{Fired}
-
--- the net of a chain with stations of these times
-abbrev pub netOf : (n m : ℕ) (source sink produced consumed time q : List ℕ) → Net
-netOf n m source sink produced consumed time q = net (sheetOf n m source sink produced consumed [] time) q
-
--- a column of delays, by queues
-abbrev pub delaysOf : (m : ℕ) (delay : List ℕ) → Below m → ℕ
-delaysOf m delay e = at delay (e .0)
 
 -- the round list and 0 behind it, or stuck and nothing but 0; the times of the stations play no part
 pub record Rounds (n m : ℕ) (source sink produced consumed delay q : List ℕ) (total : ℕ) (r : Fired) : Type 0 where

@@ -9,7 +9,7 @@ use Rattle.dataflow.specs.Runs.{initially, after, Run}
 use Rattle.dataflow.specs.Times.{TimeTable, entry}
 use Rattle.dataflow.proofs.LastLaws.{LastStart}
 use Rattle.firing.specs.Scan.{Fed}
-use Rattle.firing.specs.Round.{netOf, delaysOf}
+use Rattle.chain.specs.Chain.{netOf, delaysOf}
 
 -- where the copies of each station begin in the time table
 pub record Bases (n : ℕ) (q base : List ℕ) : Type 0 where

@@ -1,19 +1,13 @@
 // The queues into each station, found without a scan of all queues.
-ghost use Rattle.chain.specs.Chain.{Chain};
+ghost use Prim.Native.Nat.{ℕ, _≤_, _<_};
+ghost use Rattle.lists.specs.Front.{at};
 ghost use Rattle.firing.specs.Into.{Threads};
 use crate::Threaded;
 use chain::wide;
 
 // One pass over the queues.
-pub fn threads(
-    n: usize,
-    m: usize,
-    source: &[u16; 64],
-    sink: &[u16; 64],
-    produced: &[u16; 64],
-    consumed: &[u16; 64],
-) -> Threaded
-    requires { ⌜ Chain n m (now source) (now sink) (now produced) (now consumed) ⌝ }
+pub fn threads(n: usize, m: usize, sink: &[u16; 64]) -> Threaded
+    requires { ⌜ (n ≤ 32) × ((m ≤ 64) × ((e : ℕ) → e < m → at (now sink) e < n)) ⌝ }
     ensures { λ r. ⌜ Threads n m (now (sink .entry)) (r .head) (r .next) ⌝ }
 {
     let none = m as u16;

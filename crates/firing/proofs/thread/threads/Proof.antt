@@ -9,14 +9,14 @@ use Rattle.firing.proofs.thread.threads.Statement.{statement}
 use Rattle.firing.proofs.thread.threads.Tie as tie
 
 abbrev Inv-loop : tie.InvT-loop
-Inv-loop n m source sink produced consumed none head₀ next₀ left₀ head next left =
+Inv-loop n m sink none head₀ next₀ left₀ head next left =
     (left ≤ m) × ((length head ≡ 32) × ((length next ≡ 64) × Threading 32 m sink head next left))
 
 abbrev μ-loop : tie.MeasureT-loop
-μ-loop n m source sink produced consumed none head₀ next₀ left₀ head next left = left
+μ-loop n m sink none head₀ next₀ left₀ head next left = left
 
 enters : (c : tie.After-wide Inv-loop μ-loop) → at (c .before .before .before .before .args .sink .now) (c .before .before .before .loop .left - 1) < c .before .before .before .before .args .n
-enters c = c .before .before .before .before .pre .enters _ (omega arith)
+enters c = c .before .before .before .before .pre .1 .1 _ (omega arith)
 
 cast-none : tie.Need-cast-none Inv-loop μ-loop
 cast-none c = search needs
@@ -74,7 +74,7 @@ loop-again c =
     let a = c .before .before .before .before in
     let l = c .before .before .before .loop in
     let left : l .left ≡ suc (l .left - 1) = omega arith in
-    let t = one-more-threaded 32 (a .args .m) (a .args .sink .now) (l .head) (l .next) (l .left - 1) (omega arith) (omega (arith, enters c, a .pre .few)) (rw left at (l .inv .1 .1 .1)) (omega arith) (omega (arith, a .pre .few-queues)) in
+    let t = one-more-threaded 32 (a .args .m) (a .args .sink .now) (l .head) (l .next) (l .left - 1) (omega arith) (omega (arith, enters c, a .pre .0)) (rw left at (l .inv .1 .1 .1)) (omega arith) (omega (arith, a .pre .1 .0)) in
     (search needs, (simp length-set (search needs), (simp length-set (search needs), rw (c .wide .ensures .0) t)))
 
 returns : tie.Need-returns Inv-loop μ-loop
@@ -82,7 +82,7 @@ returns c =
     let l = c .before .loop in
     let a = c .before .before in
     let none : l .left ≡ 0 = omega arith in
-    all-threaded (a .args .n) 32 (a .args .m) _ _ _ (a .pre .few) (a .pre .enters) (rw none at (l .inv .1 .1 .1)) refl
+    all-threaded (a .args .n) 32 (a .args .m) _ _ _ (a .pre .0) (a .pre .1 .1) (rw none at (l .inv .1 .1 .1)) refl
 
 pub threads-spec : {M : Type 1} → statement M
 threads-spec =
