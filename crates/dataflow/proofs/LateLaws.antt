@@ -14,6 +14,11 @@ few-of none = omega arith
 few-of (this h p) = omega (arith, few-of h)
 few-of (other h n) = omega (arith, few-of h)
 
+pub many-last : {P : ℕ → Type 0} {m k : ℕ} → HowMany P m k → 1 ≤ m → P m → 1 ≤ k
+many-last none a p = absurd (omega arith)
+many-last (this h x) a p = omega arith
+many-last (other h n) a p = absurd (n p)
+
 -- they can be counted in one way only
 pub many-once : {P : ℕ → Type 0} {m k : ℕ} (k′ : ℕ) → HowMany P m k → HowMany P m k′ → k ≡ k′
 many-once k′ none none = refl

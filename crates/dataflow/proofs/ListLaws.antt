@@ -54,6 +54,11 @@ module _ (G : Net) (wanted : ℕ → ℕ) where
   list-length (complete {S = S} h) = omega (arith, sum-same (G .stations) (S .fired) wanted h)
   list-length (next {S = S} {v = v} n t) = omega (arith, list-length t, sum-one (G .stations) (S .fired) v (n .station))
 
+-- a run has as many entries as firings
+pub run-length : (G : Net) {S : State G} {l : List ℕ} → Run G S l → length l + sum (G .stations) (S .fired) ≡ sum (G .stations) (after G S l .fired)
+run-length G ended = omega arith
+run-length G (fires {S = S} {v = v} here ready run) = omega (arith, run-length G run, sum-one (G .stations) (S .fired) v here)
+
 -- what is wanted beyond the last station plays no part
 pub list-same : (G : Net) (wanted wanted′ : ℕ → ℕ) → ((v : ℕ) → v < G .stations → wanted v ≡ wanted′ v) → {S : State G} {l : List ℕ} → FiringList G wanted S l → FiringList G wanted′ S l
 list-same G wanted wanted′ same (complete h) = complete (λ v k. h v k ∙ same v k)

@@ -5,3 +5,4 @@ pub mod JoinedLaws
 pub mod PutLaws
 pub mod TestLaws
 pub mod StoreLaws
+pub mod FilledLaws

@@ -5,7 +5,7 @@ use mathlib.Core.List.{List, [], _∷_, _++_}
 use native.Mathlib.Nat.{add-zero, add-suc, suc-add, zero-add, mul-zero, mul-add, mul-one}
 use native.Mathlib.Numerals.{add-one}
 use lib.ListN.{length, drop, set, length-append}
-use lib.Seq.{sets-eq}
+use lib.Seq.{sets-eq, length-sets}
 use Rattle.lists.specs.Put.{put, Wrote}
 use Rattle.lists.specs.Joined.{joined}
 use Rattle.lists.proofs.JoinedLaws.{joined-more}
@@ -14,10 +14,25 @@ pub put-two : (l : List ℕ) (i x y : ℕ) → set (set l i x) (i + 1) y ≡ put
 unfolding put
 put-two l i x y = rw add-one
 
-put-append : (l : List ℕ) (i : ℕ) (v w : List ℕ) → put (put l i v) (i + length v) w ≡ put l i (v ++ w)
+-- and one more list behind it
+pub put-append : (l : List ℕ) (i : ℕ) (v w : List ℕ) → put (put l i v) (i + length v) w ≡ put l i (v ++ w)
 unfolding put
 put-append l i [] w = rw add-zero
 put-append l i (x ∷ v) w = rw (add-suc, ← suc-add) (put-append (set l i x) (suc i) v w)
+
+pub length-put : (l : List ℕ) (i : ℕ) (v : List ℕ) → length (put l i v) ≡ length l
+unfolding put
+length-put l i v = length-sets l i v
+
+-- nothing
+pub put-nothing : (l : List ℕ) (i : ℕ) → l ≡ put l i []
+unfolding put
+put-nothing l i = refl
+
+-- one entry behind a list
+pub put-one-more : (l : List ℕ) (i : ℕ) (v : List ℕ) (x : ℕ) → set (put l i v) (i + length v) x ≡ put l i (v ++ (x ∷ []))
+unfolding put
+put-one-more l i v x = put-append l i v (x ∷ [])
 
 -- from the first entry on
 pub put-front : (l v : List ℕ) → length v ≤ length l → put l 0 v ≡ v ++ drop (length v) l

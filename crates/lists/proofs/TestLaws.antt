@@ -7,7 +7,7 @@ use lib.Dec.{ltb}
 use borrow.Author.Tests.{ltb-true, ltb-false}
 use Rattle.lists.specs.Test.{Tells}
 
-differ : {b : Bool} → b ≡ true → b ≡ false → ⊥
+pub differ : {b : Bool} → b ≡ true → b ≡ false → ⊥
 differ t f = let z : _≡_ {A = ℕ} 0 1 = cc in omega arith
 
 pub tells-true : {P : Type 0} {b : Bool} → b ≡ true → P → Tells b P

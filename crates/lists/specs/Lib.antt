@@ -4,3 +4,4 @@ pub mod Put
 pub mod Joined
 pub mod Lowest
 pub mod Test
+pub mod Filled

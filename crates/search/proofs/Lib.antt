@@ -1,0 +1,4 @@
+pub mod CutLaws
+pub mod GatherLaws
+pub mod OrderLaws
+pub mod UnderwayLaws
