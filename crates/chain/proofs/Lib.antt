@@ -1,1 +1,2 @@
 pub mod ColumnLaws
+pub mod ChainLaws

@@ -1,19 +1,22 @@
 -- A firing list in the making: by the numbers of firings done it goes on, is complete, or stalls.
-use mathlib.Core.Path.{_≡_, sym, ap}
+use mathlib.Core.Path.{_≡_, refl, sym, ap, subst}
 use mathlib.Core.List.{List, [], _∷_, _++_, append-assoc, append-nil}
 use mathlib.Core.Logic.{inl, inr}
 use Prim.Native.Nat.{ℕ, suc, _+_, _*_, _≤_, _<_}
+use native.Mathlib.Nat.{mul-le-mul-right}
 use native.Mathlib.Omega.{arith}
-use native.Mathlib.Decide.{ℕ-discrete}
-use lib.ListN.{length, length-append}
+use native.Mathlib.Decide.{ℕ-discrete, decLt}
+use lib.ListN.{length, take, getD, length-append, List·getD-append}
+use lib.Seq.{take-append-le, take-append-seam, getD-append-seam, take-suc}
+use Rattle.lists.proofs.Order.{order}
 use Rattle.dataflow.specs.Net.{Net, Sound}
 use Rattle.dataflow.specs.Counts.{sum}
-use Rattle.dataflow.specs.Runs.{State, whenever, initially, after, Run, ended, fires}
+use Rattle.dataflow.specs.Runs.{State, whenever, initially, fire, after, Run, ended, fires}
 use Rattle.dataflow.specs.Lists.{Next, FiringList, complete, next}
 use Rattle.dataflow.proofs.SumLaws.{sum-none, sum-same, sum-less, sum-tight}
-use Rattle.dataflow.proofs.ListLaws.{sum-one}
-use Rattle.dataflow.proofs.RunLaws.{HoldsAt, holds}
-use Rattle.dataflow.proofs.TakenLaws.{after-append, run-append, ready-counts, counts-ready}
+use Rattle.dataflow.proofs.ListLaws.{sum-one, list-run, list-fired}
+use Rattle.dataflow.proofs.RunLaws.{HoldsAt, holds-initially, holds-fire, holds}
+use Rattle.dataflow.proofs.TakenLaws.{after-append, after-rises, run-append, ready-counts, counts-ready}
 use Rattle.dataflow.proofs.Decide.{ready-or-lacking}
 use Rattle.dataflow.proofs.StallLaws.{Short}
 use Rattle.dataflow.proofs.CompleteLaws.{Stalled, short-of}
@@ -91,3 +94,70 @@ module _ (G : Net) (D : G .Queue → ℕ) where
 
         short : (w : ℕ) → firedBy l w < wanted w → Short G D (firedBy l) w
         short w k = elim (ready-or-lacking G W S w) [ inl r ↦ absurd (none-can w k (ready-counts G D S h w r)) | inr r ↦ short-of G D S h w r ]
+
+  module _ (wanted : ℕ → ℕ) where
+    next-once : (S : State G) (v w : ℕ) → Next G wanted S v → Next G wanted S w → v ≡ w
+    next-once S v w n k =
+        order v w (λ lt. absurd (k .lowest v lt (n .left) (n .ready))) (λ eq. eq) (λ gt. absurd (n .lowest w gt (k .left) (k .ready)))
+
+    prefix-at : {l : List ℕ} → Prefix wanted l → (k : ℕ) → k < length l → Next G wanted (after G (initially G D) (take k l)) (getD l k 0)
+    prefix-at none k h = absurd (omega arith)
+    prefix-at (more {l = l} {v = v} p n) k h = go (decLt k (length l)) (λ b. prefix-at p k b)
+      where
+        go : Dec (k < length l) → (k < length l → Next G wanted (after G (initially G D) (take k l)) (getD l k 0)) → Next G wanted (after G (initially G D) (take k (l ++ (v ∷ [])))) (getD (l ++ (v ∷ [])) k 0)
+        go (yes b) ih = rw (take-append-le k l (v ∷ []) (omega arith), List·getD-append l (v ∷ []) 0 k b) (ih b)
+        go (no b) ih =
+            let e : k ≡ length l = omega (arith, length-append l (v ∷ [])) in
+            rw (e, take-append-seam l (v ∷ []), getD-append-seam l v [] 0) n
+
+    -- of two lists in the making the shorter is the front of the longer
+    pub prefix-front : {l l′ : List ℕ} → Prefix wanted l → Prefix wanted l′ → length l ≤ length l′ → l ≡ take (length l) l′
+    prefix-front none p′ h = refl
+    prefix-front {l′ = l′} (more {l = l} {v = v} p n) p′ h =
+        let b : length l < length l′ = omega (arith, length-append l (v ∷ [])) in
+        let front : l ≡ take (length l) l′ = prefix-front p p′ (omega arith) in
+        let here = next-once (after G (initially G D) l) v (getD l′ (length l) 0) n (subst (λ (x : List ℕ). Next G wanted (after G (initially G D) x) (getD l′ (length l) 0)) (sym front) (prefix-at p′ (length l) b)) in
+        let e : length (l ++ (v ∷ [])) ≡ suc (length l) = omega (arith, length-append l (v ∷ [])) in
+        rw (e, take-suc l′ (length l) 0 b, ← here, ← front) refl
+
+    -- none is longer than one after which no station can fire
+    pub prefix-longest : {l l′ : List ℕ} → Prefix wanted l → Prefix wanted l′ → ((w : ℕ) → firedBy l w < wanted w → ¬ FedBy (firedBy l) w) → length l′ ≤ length l
+    prefix-longest {l} {l′} p p′ none-can = elim (decLt (length l) (length l′)) [ yes b ↦ absurd (go b) | no b ↦ omega arith ]
+      where
+        go : length l < length l′ → ⊥
+        go b =
+            let front : l ≡ take (length l) l′ = prefix-front p p′ (omega arith) in
+            let n = subst (λ (x : List ℕ). Next G wanted (after G (initially G D) x) (getD l′ (length l) 0)) (sym front) (prefix-at p′ (length l) b) in
+            none-can (getD l′ (length l) 0) (n .left) (ready-counts G D (after G (initially G D) l) (holds G D (prefix-run wanted p)) (getD l′ (length l) 0) (n .ready))
+
+  -- A list that stalls can't be completed in another way.
+  module _ (wanted : ℕ → ℕ) (s : Stalled G wanted D) where
+    below : {S : State G} {l : List ℕ} → Run G S l → ((e : G .Queue) → HoldsAt G D S e) → ((w : ℕ) → S .fired w ≤ s .fired w)
+        → ((w : ℕ) → w < G .stations → after G S l .fired w ≤ wanted w) → (w : ℕ) → after G S l .fired w ≤ s .fired w
+    below ended h few most w = few w
+    below {S} (fires {v = v} {l = l} here ready run) h few most w = below run (λ e. holds-fire G D S v ready e (h e)) (λ u. go u (ℕ-discrete u v)) most w
+      where
+        left : suc (S .fired v) ≤ wanted v
+        left = pick (ℕ-discrete v v) (after-rises G (fire G v S) l v)
+          where
+            pick : (x : Dec (v ≡ v)) → S .fired v + whenever x 1 ≤ after G (fire G v S) l .fired v → suc (S .fired v) ≤ wanted v
+            pick (yes x) a = omega (arith, most v here)
+            pick (no x) a = absurd (x refl)
+
+        mine : S .fired v < s .fired v
+        mine = elim (decLt (S .fired v) (s .fired v)) [ yes a ↦ a | no a ↦ absurd (blocked (omega (arith, few v))) ]
+          where
+            blocked : s .fired v ≡ S .fired v → ⊥
+            blocked e =
+                let x = s .short v (omega (arith, left)) in
+                let q : G .Queue = x .queue in
+                omega (arith, x .lacks, ready-counts G D S h v ready q (x .to), mul-le-mul-right (G .produced q) (few (G .source q)), ap (λ (y : ℕ). y * G .consumed q) e)
+
+        go : (u : ℕ) (x : Dec (u ≡ v)) → S .fired u + whenever x 1 ≤ s .fired u
+        go u (yes x) = rw x (omega (arith, mine))
+        go u (no x) = omega (arith, few u)
+
+    pub stalled-cannot : ((v : ℕ) → 1 ≤ wanted v → v < G .stations) → (l : List ℕ) → ¬ FiringList G wanted (initially G D) l
+    stalled-cannot real l f =
+        let e = list-fired G wanted f (s .v) (real (s .v) (omega (arith, s .left))) in
+        omega (arith, s .left, e, below (list-run G wanted f) (holds-initially G D) (λ w. omega arith) (λ w h. omega (arith, list-fired G wanted f w h)) (s .v))

@@ -18,6 +18,11 @@ module _ (G : Net) where
   after-append S [] m = refl
   after-append S (v ∷ l) m = after-append (fire G v S) l m
 
+  -- firings only add to the numbers of firings done
+  pub after-rises : (S : State G) (l : List ℕ) (u : ℕ) → S .fired u ≤ after G S l .fired u
+  after-rises S [] u = omega arith
+  after-rises S (v ∷ l) u = omega (arith, after-rises (fire G v S) l u)
+
   pub run-append : {S : State G} {l m : List ℕ} → Run G S l → Run G (after G S l) m → Run G S (l ++ m)
   run-append ended k = k
   run-append (fires s r run) k = fires s r (run-append run k)

@@ -1,6 +1,6 @@
 pub mod ThreadLaws
 pub mod ScanLaws
-pub mod RoundLaws
+pub mod FireLaws
 pub mod BaseLaws
 pub mod StartLaws
 pub mod TableLaws

@@ -1,11 +1,13 @@
 -- What the routines find, by the definitions: the round list fires a round, and the time table tells the period and the late copies.
-use Prim.Native.Nat.{ℕ, _+_, _<_}
-use mathlib.Core.Path.{_≡_}
-use mathlib.Core.Bool.{true}
+use Prim.Native.Nat.{ℕ, _+_, _≤_, _<_}
+use mathlib.Core.Path.{_≡_, ap}
+use mathlib.Core.Bool.{Bool, true, false}
 use mathlib.Core.List.{List}
 use mathlib.Core.Logic.{⊎-elim}
+use native.Mathlib.Nat.{le-refl}
 use native.Mathlib.Omega.{arith}
-use lib.ListN.{length, take, length-take}
+use lib.ListN.{length, take, drop, length-append}
+use lib.Seq.{take-at}
 use Rattle.lists.specs.Front.{at}
 use Rattle.lists.proofs.Order.{lt-or-ge}
 use Rattle.dataflow.specs.Net.{Net, Sound}
@@ -13,34 +15,48 @@ use Rattle.dataflow.specs.Copies.{Copy}
 use Rattle.dataflow.specs.Paths.{Within, Period, Late}
 use Rattle.dataflow.specs.Search.{HowMany, none}
 use Rattle.dataflow.specs.Sheet.{Below}
+use Rattle.dataflow.specs.Stuck.{Stuck}
 use Rattle.dataflow.specs.Times.{entry}
 use Rattle.dataflow.proofs.CopyLaws.{copy-station}
 use Rattle.dataflow.proofs.LateLaws.{many-same}
-use Rattle.dataflow.proofs.ListLaws.{list-run, list-fired, round-length}
+use Rattle.dataflow.proofs.ListLaws.{list-run, list-fired}
 use Rattle.dataflow.proofs.PathLaws.{path-end}
+use Rattle.dataflow.proofs.PrefixLaws.{prefix-stalled}
 use Rattle.dataflow.proofs.RankLaws.{Ranked, round-ranked}
+use Rattle.dataflow.proofs.StallLaws.{stuck-of}
 use Rattle.dataflow.proofs.SumTable.{Sums}
 use Rattle.dataflow.proofs.TimeLaws.{sums-rise, table-sums}
 use Rattle.chain.specs.Chain.{CountedChain, netOf, delaysOf}
-use Rattle.firing.specs.declared.Fired.{Fired}
-use Rattle.firing.specs.Round.{Rounds}
+use Rattle.firing.specs.Fire.{Wanted, Fires}
 use Rattle.firing.specs.Times.{Ordered, Tabled}
 use Rattle.firing.specs.Late.{LatestEnd, LateCounts}
-use Rattle.firing.proofs.RoundLaws.{sound}
+use Rattle.chain.proofs.ChainLaws.{sound}
+use Rattle.firing.proofs.FireLaws.{written}
 
-module _ {n m : ℕ} {source sink produced consumed delay q : List ℕ} {total : ℕ} (c : CountedChain n m source sink produced consumed q total) where
-  -- the list of a round that fires is an order for the time table
-  pub rounds-ordered : {r : Fired} (time : List ℕ) → Rounds n m source sink produced consumed delay q total r → r .fires ≡ true
-      → Ordered n m source sink produced consumed delay time q total (r .list)
-  rounds-ordered {r} time R t =
-      let l = take total (r .list) in
-      let G = netOf n m source sink produced consumed time q in
-      let D = delaysOf m delay in
-      record {
-        long = omega (arith, length-take total (r .list), round-length G D l (R .list t time), c .adds);
-        run = list-run G (at q) (R .list t time);
-        whole = list-fired G (at q) (R .list t time);
-      }
+module _ {n m : ℕ} {source sink produced consumed q : List ℕ} {total : ℕ} (c : CountedChain n m source sink produced consumed q total) where
+  -- the counts, as what is wanted of a round
+  pub round-wanted : Wanted n q total
+  round-wanted = record { adds = c .adds; beyond = c .beyond; few = omega (arith, c .few) }
+
+  module _ {delay : List ℕ} {r : Bool} {before after : List ℕ} (f : Fires n m source sink produced consumed delay q total r before after) where
+    -- the list of a round is an order for the time table
+    pub round-ordered : (time : List ℕ) → r ≡ true → total ≤ length before → Ordered n m source sink produced consumed delay time q total after
+    round-ordered time t h =
+        let w = written f round-wanted t h in
+        let l : take total after ≡ f .made = rw (w .1) (take-at (f .made) (drop total before) total (w .0)) in
+        let G = netOf n m source sink produced consumed time q in
+        record {
+          long = omega (arith, ap length (w .1), length-append (f .made) (drop total before), w .0);
+          run = rw l (list-run G (at q) (f .complete t time q));
+          whole = rw l (list-fired G (at q) (f .complete t time q));
+        }
+
+    -- a round that can't be completed is stuck
+    pub round-stuck : (time : List ℕ) → r ≡ false → Stuck (netOf n m source sink produced consumed time q) (delaysOf m delay)
+    round-stuck time e =
+        let G = netOf n m source sink produced consumed time q in
+        let s = prefix-stalled G (delaysOf m delay) (at q) (sound c time) (f .so-far time q) (omega (arith, f .fewer e, c .adds)) (f .none-can e time q) in
+        stuck-of G (sound c time) (delaysOf m delay) (s .fired) (s .short) (record { v = s .v; i = at q (s .v); undone = s .left; high = le-refl _ })
 
 module _ (n m : ℕ) (source sink produced consumed delay time q : List ℕ) (total : ℕ) where
   abbrev G : Net
@@ -51,7 +67,7 @@ module _ (n m : ℕ) (source sink produced consumed delay time q : List ℕ) (to
 
   module _ (c : CountedChain n m source sink produced consumed q total) where
     W : Sound G
-    W = sound n m source sink produced consumed delay q c time
+    W = sound c time
 
     module _ {list table : List ℕ} (o : Ordered n m source sink produced consumed delay time q total list) (t : Tabled n m source sink produced consumed delay time q total table) where
       abbrev end : ℕ → ℕ → ℕ

@@ -20,18 +20,14 @@ use Rattle.dataflow.specs.Sheet.{Below}
 use Rattle.dataflow.specs.Times.{entry}
 use Rattle.dataflow.proofs.SumLaws.{sum-before}
 use Rattle.dataflow.proofs.RunLaws.{holds, holds-length}
-use Rattle.dataflow.proofs.TakenLaws.{after-append, run-front, run-rest, run-ready, ready-counts}
+use Rattle.dataflow.proofs.TakenLaws.{after-append, after-rises, run-front, run-rest, run-ready, ready-counts}
 use Rattle.dataflow.proofs.PrefixLaws.{firedBy, fired-more}
 use Rattle.dataflow.proofs.RankLaws.{round-ranked}
 use Rattle.dataflow.proofs.LastLaws.{MakesLast, LastStart, last-same, last-table}
 use Rattle.chain.specs.Chain.{CountedChain, netOf, delaysOf}
 use Rattle.firing.specs.Times.{Bases, Ordered, Tabled, Waits, StartsAt}
-use Rattle.firing.proofs.RoundLaws.{sound, by-fed}
-
--- firings only add to the numbers of firings done
-after-rises : (G : Net) (S : State G) (l : List ℕ) (u : ℕ) → S .fired u ≤ after G S l .fired u
-after-rises G S [] u = omega arith
-after-rises G S (v ∷ l) u = omega (arith, after-rises G (fire G v S) l u)
+use Rattle.chain.proofs.ChainLaws.{sound}
+use Rattle.firing.proofs.FireLaws.{by-fed}
 
 -- where g firings make the tokens that firing i takes, the maker of its last token is one of them
 made-before : (d p c f i g : ℕ) → MakesLast d p c f i → i * c ≤ d + g * p → f ≤ g
@@ -128,7 +124,7 @@ module _ (n m : ℕ) (source sink produced consumed delay time q : List ℕ) (to
         delays = small;
         few = λ u l. omega (arith, z .is u, few u l);
         left = omega (arith, z .is v, left);
-        fed = by-fed n m source sink produced consumed delay q time fired F (z .is) v fed-here;
+        fed = by-fed n m source sink produced consumed delay time q fired F (z .is) v fed-here;
         starts = λ j. omega (arith, z .bound j, mul-le-mul-right 65535 (sized c));
       }
         where
@@ -211,8 +207,8 @@ module _ (n m : ℕ) (source sink produced consumed delay time q : List ℕ) (to
   -- the whole list is done
   pub all-found : CountedChain n m source sink produced consumed q total → Ordered n m source sink produced consumed delay time q total list → {table fired : List ℕ} → TableSoFar table fired total → Tabled n m source sink produced consumed delay time q total table
   all-found c o {table} z = record {
-    times = last-table G (sound n m source sink produced consumed delay q c time) D _
-        (round-ranked G (sound n m source sink produced consumed delay q c time) D (record { order = take total list; run = o .run; all-fired = o .whole }))
+    times = last-table G (sound c time) D _
+        (round-ranked G (sound c time) D (record { order = take total list; run = o .run; all-fired = o .whole }))
         (entry (at q) table)
         (λ v i copy. z .done v i (copy .low) (omega (arith, copy .high, z .is v, all v copy)));
     rest = z .rest;

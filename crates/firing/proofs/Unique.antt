@@ -1,28 +1,30 @@
 -- No second answer meets a contract.
-use Prim.Native.Nat.{ℕ, suc, _+_, _-_, _<_}
+use Prim.Native.Nat.{ℕ, suc, _+_, _-_, _≤_, _<_}
 use mathlib.Core.Path.{_≡_, refl, sym, ap, _∙_}
 use mathlib.Core.Bool.{Bool, true, false}
-use mathlib.Core.List.{List}
+use mathlib.Core.List.{List, []}
 use mathlib.Core.Logic.{⊎-elim}
 use native.Mathlib.Omega.{arith}
 use lib.ListN.{length, take}
-use lib.Seq.{ext-getD, getD-take}
+use lib.Seq.{ext-getD, take-all}
 use Rattle.lists.specs.Front.{at}
+use Rattle.lists.specs.Put.{put}
 use Rattle.lists.proofs.Order.{order, lt-or-ge}
+use Rattle.dataflow.specs.Net.{Net}
 use Rattle.dataflow.specs.Counts.{sum}
+use Rattle.dataflow.specs.Sheet.{Below}
 use Rattle.dataflow.proofs.LateLaws.{many-once}
-use Rattle.dataflow.proofs.ListLaws.{list-run, list-fired, list-once}
-use Rattle.dataflow.proofs.StuckLaws.{stuck-cannot-fire}
-use Rattle.dataflow.proofs.SumLaws.{sum-place}
+use Rattle.dataflow.proofs.ListLaws.{list-length}
+use Rattle.dataflow.proofs.PrefixLaws.{prefix-front, prefix-longest}
+use Rattle.dataflow.proofs.SumLaws.{sum-none, sum-place}
 use Rattle.dataflow.proofs.TimeLaws.{times-once}
 use Rattle.chain.specs.Chain.{CountedChain, netOf, delaysOf}
-use Rattle.firing.specs.declared.Fired.{Fired}
 use Rattle.firing.specs.Into.{FirstInto, Threads}
 use Rattle.firing.specs.Scan.{LowestThatCan}
-use Rattle.firing.specs.Round.{Rounds}
+use Rattle.firing.specs.Fire.{Wanted, Fires}
 use Rattle.firing.specs.Times.{Bases, Ordered, Tabled}
 use Rattle.firing.specs.Late.{LatestEnd, LateCounts}
-use Rattle.firing.proofs.RoundLaws.{sound}
+use Rattle.chain.proofs.ChainLaws.{sound}
 use Rattle.firing.proofs.PeriodLaws.{ranked}
 
 -- of the threads
@@ -58,36 +60,38 @@ bases-unique n q base base′ p p′ l =
     ext-getD 0 base base′ l
     (λ v h. ⊎-elim (λ b. p .rest v b ∙ sym (p′ .rest v b)) (λ b. p .is v b ∙ sym (p′ .is v b)) (lt-or-ge n v))
 
+-- of a list of firings, and of what the lent list holds then
+module _ (n m : ℕ) (source sink produced consumed delay wanted : List ℕ) (total : ℕ) (w : Wanted n wanted total) (before : List ℕ) where
+  abbrev G : Net
+  G = netOf n m source sink produced consumed [] []
+
+  abbrev D : Below m → ℕ
+  D = delaysOf m delay
+
+  -- a whole list has as many entries as are wanted, and no list in the making has more than one after which no station can fire
+  long : {r : Bool} {after : List ℕ} (f : Fires n m source sink produced consumed delay wanted total r before after) → r ≡ true → length (f .made) ≡ total
+  long f t = omega (arith, list-length G (at wanted) (f .complete t [] []), sum-none n, w .adds)
+
+  stays : {r r′ : Bool} {after after′ : List ℕ} (f : Fires n m source sink produced consumed delay wanted total r before after) (f′ : Fires n m source sink produced consumed delay wanted total r′ before after′)
+      → r ≡ false → length (f′ .made) ≤ length (f .made)
+  stays f f′ e = prefix-longest G D (at wanted) (f .so-far [] []) (f′ .so-far [] []) (f .none-can e [] [])
+
+  module _ {r r′ : Bool} {after after′ : List ℕ} (f : Fires n m source sink produced consumed delay wanted total r before after) (f′ : Fires n m source sink produced consumed delay wanted total r′ before after′) where
+    same-after : length (f .made) ≡ length (f′ .made) → after ≡ after′
+    same-after e =
+        let made : f .made ≡ f′ .made = prefix-front G D (at wanted) (f .so-far [] []) (f′ .so-far [] []) (omega arith) ∙ take-all (length (f .made)) (f′ .made) (omega arith) in
+        f .stored ∙ ap (λ (x : List ℕ). put before 0 (take (length before) x)) made ∙ sym (f′ .stored)
+
+    pub fire-list-unique : (r ≡ r′) × (after ≡ after′)
+    fire-list-unique = go r r′ refl refl
+      where
+        go : (b b′ : Bool) → r ≡ b → r′ ≡ b′ → (r ≡ r′) × (after ≡ after′)
+        go true true e e′ = (e ∙ sym e′, same-after (long f e ∙ sym (long f′ e′)))
+        go true false e e′ = absurd (omega (arith, long f e, f′ .fewer e′, stays f′ f e′))
+        go false true e e′ = absurd (omega (arith, long f′ e′, f .fewer e, stays f f′ e))
+        go false false e e′ = (e ∙ sym e′, same-after (omega (arith, stays f f′ e, stays f′ f e′)))
+
 module _ (n m : ℕ) (source sink produced consumed delay time q : List ℕ) (total : ℕ) (c : CountedChain n m source sink produced consumed q total) where
-  abbrev Answer : Fired → Type 0
-  Answer = Rounds n m source sink produced consumed delay q total
-
-  clash : (r r′ : Fired) → Answer r → Answer r′ → r .fires ≡ true → r′ .fires ≡ false → ⊥
-  clash r r′ p p′ t f =
-      let G = netOf n m source sink produced consumed time q in
-      let D = delaysOf m delay in
-      let l = p .list t time in
-      stuck-cannot-fire G (sound n m source sink produced consumed delay q c time) D (p′ .stuck f time)
-      (record { order = take total (r .list); run = list-run G (at q) l; all-fired = list-fired G (at q) l })
-
-  same-list : (r r′ : Fired) → Answer r → Answer r′ → length (r .list) ≡ length (r′ .list) → (b b′ : Bool) → r .fires ≡ b → r′ .fires ≡ b′ → (b ≡ b′) × (r .list ≡ r′ .list)
-  same-list r r′ p p′ l true false t f = absurd (clash r r′ p p′ t f)
-  same-list r r′ p p′ l false true f t = absurd (clash r′ r p′ p t f)
-  same-list r r′ p p′ l false false f f′ = (refl, p .blank f ∙ sym (p′ .blank f′))
-  same-list r r′ p p′ l true true t t′ = (refl, ext-getD 0 (r .list) (r′ .list) l (λ k h. ⊎-elim (within k) (λ b. p .rest t k b ∙ sym (p′ .rest t′ k b)) (lt-or-ge k total)))
-    where
-      same : take total (r .list) ≡ take total (r′ .list)
-      same = list-once (netOf n m source sink produced consumed time q) (at q) _ (p .list t time) (p′ .list t′ time)
-
-      within : (k : ℕ) → k < total → at (r .list) k ≡ at (r′ .list) k
-      within k b = sym (getD-take total (r .list) k 0 b) ∙ ap (λ (x : List ℕ). at x k) same ∙ getD-take total (r′ .list) k 0 b
-
-  -- of the round
-  pub round-unique : (r r′ : Fired) → Rounds n m source sink produced consumed delay q total r → Rounds n m source sink produced consumed delay q total r′ → length (r .list) ≡ length (r′ .list) → r ≡ r′
-  round-unique r r′ p p′ l =
-      let same = same-list r r′ p p′ l (r .fires) (r′ .fires) refl refl in
-      λ i. record { fires = same .0 i; list = same .1 i }
-
   -- of the time table
   pub table-unique : (list : List ℕ) → Ordered n m source sink produced consumed delay time q total list → (table table′ : List ℕ) → Tabled n m source sink produced consumed delay time q total table
       → Tabled n m source sink produced consumed delay time q total table′ → length table ≡ length table′ → table ≡ table′
@@ -98,7 +102,7 @@ module _ (n m : ℕ) (source sink produced consumed delay time q : List ℕ) (to
           let x = sum-place (at q) n k (omega (arith, c .adds)) in
           let e : k ≡ sum (x .0) (at q) + (suc (x .1) - 1) = omega (arith, x .4) in
           rw e
-          (times-once (netOf n m source sink produced consumed time q) (sound n m source sink produced consumed delay q c time) (delaysOf m delay) _
+          (times-once (netOf n m source sink produced consumed time q) (sound c time) (delaysOf m delay) _
           (ranked n m source sink produced consumed delay time q total c o t) _ _ (t .times) (t′ .times) (x .0) (suc (x .1)) (record { low = omega arith; high = omega (arith, x .3) }))
 
 -- of the latest finish

@@ -1,5 +1,5 @@
 pub mod Into
 pub mod Scan
-pub mod Round
+pub mod Fire
 pub mod Times
 pub mod Late

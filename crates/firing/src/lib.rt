@@ -1,16 +1,16 @@
-// Firing a round, and the time table of its copies.
+// Firing lists, and the time table of its copies.
 ghost use mathlib.Core.Path.{_≡_};
 ghost use Prim.Native.Nat.{max};
 
+mod fire;
 mod late;
-mod round;
 mod scan;
 mod thread;
 mod times;
 
+pub use fire::fire_list;
 pub use late::late_counts;
 pub use late::latest_end;
-pub use round::fire_round;
 pub use scan::ready;
 pub use thread::threads;
 pub use times::bases;
@@ -20,12 +20,6 @@ pub use times::time_table;
 pub struct Threaded {
     pub head: [u16; 32],
     pub next: [u16; 64],
-}
-
-// The stations in the order in which they fire, where the round can be fired at all.
-pub struct Fired {
-    pub fires: bool,
-    pub list: [u16; 256],
 }
 
 pub(crate) fn later(a: u32, b: u32) -> u32

@@ -32,7 +32,7 @@ use Rattle.chain.specs.Chain.{CountedChain, netOf, delaysOf}
 use Rattle.firing.specs.Late.{Readable, LatestEnd, LateCounts}
 use Rattle.firing.specs.Times.{Bases, Ordered, Tabled}
 use Rattle.firing.proofs.PeriodLaws.{period-is, late-is}
-use Rattle.firing.proofs.RoundLaws.{sound}
+use Rattle.chain.proofs.ChainLaws.{sound}
 use Rattle.firing.proofs.TableLaws.{here}
 use Rattle.search.specs.Cut.{between, noneFired, keeps, lateFirst, Cuttable, Reordered}
 use Rattle.search.specs.Raise.{DelaysFit, NewDelays, Raised}
@@ -64,7 +64,7 @@ module _ (n m : ℕ) (source sink produced consumed delay time q : List ℕ) (to
 
   module _ (c : CountedChain n m source sink produced consumed q total) where
     W : Sound G
-    W = sound n m source sink produced consumed delay q c time
+    W = sound c time
 
     count-few : (v : ℕ) → at q v ≤ 256
     count-few v = ⊎-elim (λ l. omega (arith, sum-above n (at q) v l, c .adds, c .few)) (λ l. omega (arith, c .beyond v l)) (lt-or-ge v n)
