@@ -41,6 +41,11 @@ pub record Chain (n m : ℕ) (source sink produced consumed : List ℕ) : Type 0
   pub takes : (e : ℕ) → e < m → 1 ≤ at consumed e
   pub takes-most : (e : ℕ) → e < m → at consumed e ≤ 64
 
+-- delays within limits, and 0 beyond the last queue
+pub record DelaysGiven (m : ℕ) (delay : List ℕ) : Type 0 where
+  pub most : (e : ℕ) → at delay e ≤ 4095
+  pub rest : (e : ℕ) → m ≤ e → at delay e ≡ 0
+
 -- a chain with counts that balance it, total in all
 pub record CountedChain (n m : ℕ) (source sink produced consumed q : List ℕ) (total : ℕ) : Type 0 where
   pub chain : Chain n m source sink produced consumed

@@ -17,9 +17,9 @@ use Rattle.dataflow.proofs.PlanLaws.{search-bound, back-bound}
 use Rattle.dataflow.proofs.SearchLaws.{rounds-bound}
 use Rattle.dataflow.proofs.SumLaws.{sum-above}
 use Rattle.dataflow.proofs.WholeLaws.{Retimed, delay-is, up, down}
-use Rattle.chain.specs.Chain.{CountedChain, netOf, delaysOf}
+use Rattle.chain.specs.Chain.{DelaysGiven, CountedChain, netOf, delaysOf}
 use Rattle.chain.proofs.ChainLaws.{sound}
-use Rattle.search.specs.Found.{DelaysGiven, Retimes}
+use Rattle.search.specs.Found.{Retimes}
 use Rattle.search.specs.declared.Found.{Found}
 
 module _ {n m : ℕ} {source sink produced consumed delay time q : List ℕ} {total target : ℕ} (c : CountedChain n m source sink produced consumed q total) {r : Found}

@@ -28,7 +28,7 @@ use Rattle.dataflow.proofs.PlanLaws.{search-bound}
 use Rattle.dataflow.proofs.RaiseLaws.{raise-legal, raisedBy}
 use Rattle.dataflow.proofs.SumLaws.{sum-above, sum-none, sum-same}
 use Rattle.dataflow.proofs.WholeLaws.{Retimed, retimed-is, whole-retimed}
-use Rattle.chain.specs.Chain.{CountedChain, netOf, delaysOf}
+use Rattle.chain.specs.Chain.{DelaysGiven, CountedChain, netOf, delaysOf}
 use Rattle.firing.specs.Late.{Readable, LatestEnd, LateCounts}
 use Rattle.firing.specs.Times.{Bases, Ordered, Tabled}
 use Rattle.firing.proofs.PeriodLaws.{period-is, late-is}
@@ -36,7 +36,7 @@ use Rattle.chain.proofs.ChainLaws.{sound}
 use Rattle.firing.proofs.TableLaws.{here}
 use Rattle.search.specs.Cut.{between, noneFired, keeps, lateFirst, Cuttable, Reordered}
 use Rattle.search.specs.Raise.{DelaysFit, NewDelays, Raised}
-use Rattle.search.specs.Found.{DelaysGiven, Retimes, NoneServes, Searches}
+use Rattle.search.specs.Found.{Retimes}
 use Rattle.search.specs.declared.Found.{Found}
 use Rattle.search.proofs.CutLaws.{turned-run, turned-whole}
 

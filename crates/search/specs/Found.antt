@@ -13,11 +13,6 @@ use Rattle.chain.specs.Chain.{netOf, delaysOf}
 use Rattle.firing.specs.Times.{Tabled}
 use Rattle.search.specs.declared.Found.{Found}
 
--- the sheet's delays, and 0 beyond the last
-pub record DelaysGiven (m : ℕ) (delay : List ℕ) : Type 0 where
-  pub most : (e : ℕ) → at delay e ≤ 4095
-  pub rest : (e : ℕ) → m ≤ e → at delay e ≡ 0
-
 module _ (n m : ℕ) (source sink produced consumed delay time q : List ℕ) (total target : ℕ) where
   -- the plan's retiming, the rounds of the search that ends at it, the new delays, their period and their time table
   pub record Retimes (r : Found) : Type 0 where

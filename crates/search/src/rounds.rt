@@ -1,8 +1,8 @@
 // The search.
-ghost use Rattle.chain.specs.Chain.{CountedChain};
+ghost use Rattle.chain.specs.Chain.{DelaysGiven, CountedChain};
 ghost use Rattle.firing.specs.Into.{Threads};
 ghost use Rattle.firing.specs.Times.{Ordered};
-ghost use Rattle.search.specs.Found.{DelaysGiven, Searches};
+ghost use Rattle.search.specs.Found.{Searches};
 use crate::Found;
 use crate::order::reorder;
 use crate::raise::new_delays;

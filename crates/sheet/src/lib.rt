@@ -3,6 +3,7 @@ mod limits;
 mod reader;
 mod writer;
 
+pub use reader::blank_sheet;
 pub use reader::read;
 pub use writer::write;
 

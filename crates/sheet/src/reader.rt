@@ -142,25 +142,32 @@ fn bad_queue(sheet: Sheet) -> usize
     )
 }
 
+// A sheet of nothing but 0, as a refusal hands it back.
+pub fn blank_sheet() -> Sheet
+    ensures { λ r. ⌜ r ≡ blank ⌝ }
+{
+    Sheet {
+        version: 0,
+        n: 0,
+        m: 0,
+        target: 0,
+        tag: [0; 32],
+        time: [0; 32],
+        source: [0; 64],
+        sink: [0; 64],
+        produced: [0; 64],
+        consumed: [0; 64],
+        delay: [0; 64],
+    }
+}
+
 fn refused(number: u32, place: u32) -> Reading
     ensures { λ r. ⌜ r ≡ (record { number = number; place = place; sheet = blank }) ⌝ }
 {
     Reading {
         number,
         place,
-        sheet: Sheet {
-            version: 0,
-            n: 0,
-            m: 0,
-            target: 0,
-            tag: [0; 32],
-            time: [0; 32],
-            source: [0; 64],
-            sink: [0; 64],
-            produced: [0; 64],
-            consumed: [0; 64],
-            delay: [0; 64],
-        },
+        sheet: blank_sheet(),
     }
 }
 

@@ -1,0 +1,128 @@
+-- The checks' answers, by the rows of the table.
+use Prim.Native.Nat.{ℕ, _+_, _≤_, _<_}
+use mathlib.Core.Path.{_≡_, refl, sym, subst, _∙_}
+use mathlib.Core.Bool.{Bool, true, false}
+use mathlib.Core.List.{List, [], _∷_, _++_}
+use mathlib.Core.Logic.{⊎-elim}
+use native.Mathlib.Nat.{le-dest}
+use native.Mathlib.Omega.{arith}
+use lib.ListN.{length, take, drop, replicate}
+use lib.Seq.{ext-getD, take-at, getD-append-add, getD-drop}
+use Rattle.lists.specs.Front.{at}
+use Rattle.lists.specs.Test.{Tells}
+use Rattle.lists.proofs.Order.{lt-or-ge}
+use Rattle.lists.proofs.StoreLaws.{at-zeros}
+use Rattle.refusals.specs.First.{Row, First}
+use Rattle.refusals.specs.Table.{apart, counts-fail, stuck}
+use Rattle.refusals.proofs.FirstLaws.{here-now, passed, none, extend, append, all-passed}
+use Rattle.dataflow.specs.Counts.{Counts}
+use Rattle.dataflow.specs.Lists.{RoundList}
+use Rattle.dataflow.specs.Refusals.{apartRow, countsRow}
+use Rattle.dataflow.specs.Stuck.{Stuck}
+use Rattle.dataflow.proofs.CountLaws.{counts-once}
+use Rattle.dataflow.proofs.StuckLaws.{stuck-cannot-fire, round-of-list}
+use Rattle.sheet.specs.declared.Sheet.{Sheet}
+use Rattle.sheet.specs.declared.Reading.{Reading}
+use Rattle.sheet.specs.Format.{sheetOf}
+use Rattle.sheet.specs.Read.{readRows, Reads}
+use Rattle.chain.specs.Chain.{CountedChain, delaysOf}
+use Rattle.chain.proofs.ChainLaws.{sound}
+use Rattle.firing.specs.Into.{Threads}
+use Rattle.firing.specs.Fire.{Fires}
+use Rattle.firing.proofs.FireLaws.{written}
+use Rattle.firing.proofs.PeriodLaws.{round-wanted, round-stuck}
+use Rattle.counts.specs.declared.Counted.{Counted}
+use Rattle.counts.specs.Joining.{AllJoined}
+use Rattle.counts.specs.Smallest.{Smallest}
+use Rattle.counts.proofs.RowLaws.{joined-passes, apart-applies, are-counts, counts-pass, counts-fail-applies}
+use Rattle.checks.specs.declared.Checked.{Checked}
+use Rattle.checks.specs.Check.{columnsOf, netFor, delaysFor, CountsOf, stuckRow, chainRows, checkRows, Ready, refusedBy, Judges}
+
+-- a refusal is all that is said
+pub judged-refused : {rows : List Row} {f : Sheet} (number place : ℕ) {r : Checked} → (number ≡ 0 → ⊥) → First rows number place → r ≡ refusedBy number place → Judges rows f r
+judged-refused number place real v e = rw e (record { verdict = v; accepted = λ z. absurd (real z); refused = λ z. refl })
+
+-- what the counts of a net are hangs on its queues alone
+pub any-counts : (f : Sheet) (a b : List ℕ) (x : ℕ → ℕ) → Counts (netFor f a) x → Counts (netFor f b) x
+any-counts f a b x c = record {
+  balances = record { positive = c .balances .positive; balanced = c .balances .balanced };
+  least = λ y h. c .least y (record { positive = h .positive; balanced = h .balanced });
+}
+
+-- the counts of a sheet are one list
+pub counts-of-once : (f : Sheet) (q q′ : List ℕ) → CountsOf f q → CountsOf f q′ → q ≡ q′
+counts-of-once f q q′ c c′ =
+    ext-getD 0 q q′ (c .entries ∙ sym (c′ .entries))
+    (λ v h. ⊎-elim (λ l. counts-once (netFor f q) (at q) (at q′) (c .counts) (any-counts f q′ q (at q′) (c′ .counts)) v l) (λ l. c .beyond v l ∙ sym (c′ .beyond v l)) (lt-or-ge v (f .n)))
+
+module _ (f : Sheet) {total : ℕ} {q : List ℕ} (c : CountedChain (f .n) (f .m) (f .source) (f .sink) (f .produced) (f .consumed) q total) (of : CountsOf f q) {delay : List ℕ} (wide : delay ≡ f .delay)
+  {fires : Bool} {list : List ℕ} (F : Fires (f .n) (f .m) (f .source) (f .sink) (f .produced) (f .consumed) delay q total fires (replicate 256 0) list) where
+  -- 8 is given
+  pub stuck-refused : fires ≡ false → First (stuckRow f ∷ []) 8 0
+  stuck-refused e = here-now stuck (q, of, subst (λ (d : List ℕ). Stuck (netFor f q) (delaysOf (f .m) d)) wide (round-stuck c F (f .time) e))
+
+  module _ (e : fires ≡ true) where
+    round-list : RoundList (netFor f q) (delaysFor f q) (F .made)
+    round-list = subst (λ (d : List ℕ). RoundList (netFor f q) (delaysOf (f .m) d) (F .made)) wide (F .complete e (f .time) q)
+
+    stored : (length (F .made) ≡ total) × (list ≡ F .made ++ drop total (replicate 256 0))
+    stored = written F (round-wanted c) e (c .few)
+
+    -- or none is
+    pub fires-passed : First (stuckRow f ∷ []) 0 0
+    fires-passed = passed {r = stuckRow f} unstuck none
+      where
+        unstuck : (place : ℕ) → stuckRow f .applies place → ⊥
+        unstuck place a =
+            stuck-cannot-fire (netFor f q) (sound c (f .time)) (delaysFor f q) (subst (λ (x : List ℕ). Stuck (netFor f x) (delaysFor f x)) (counts-of-once f (a .0) q (a .1) of) (a .2))
+            (round-of-list (netFor f q) (sound c (f .time)) (delaysFor f q) (F .made) round-list)
+
+    pub is-ready : {head next : List ℕ} → Threads (f .n) (f .m) (f .sink) head next
+        → Ready f (record { number = 0; place = 0; sheet = f; total = total; q = q; delay = delay; head = head; next = next; list = list })
+    is-ready threads = record {
+      sheet = refl;
+      counts = of;
+      total = sym (c .adds);
+      few = c .few;
+      delays = wide;
+      threads = threads;
+      round = rw (stored .1, take-at (F .made) (drop total (replicate 256 0)) total (stored .0)) round-list;
+      rest = rest;
+    }
+      where
+        rest : (k : ℕ) → total ≤ k → at list k ≡ 0
+        rest k h =
+            let x = le-dest h in
+            rw (stored .1, ← x .1)
+            (subst (λ (y : ℕ). at (F .made ++ drop total (replicate 256 0)) (y + x .0) ≡ at (drop total (replicate 256 0)) (x .0)) (stored .0) (getD-append-add (F .made) (drop total (replicate 256 0)) (x .0) 0)
+            ∙ getD-drop total (replicate 256 0) (x .0) 0 ∙ at-zeros 256 (total + x .0))
+
+module _ (f : Sheet) {joins : Bool} (T : Tells joins (AllJoined (f .n) (f .m) (f .source) (f .sink))) where
+  -- 6 is given
+  pub apart-refused : joins ≡ false → First (chainRows f) 6 0
+  apart-refused e = here-now apart (apart-applies (columnsOf f) [] T e)
+
+  module _ (e : joins ≡ true) {counted : Counted} (S : Smallest (f .n) (f .m) (f .source) (f .sink) (f .produced) (f .consumed) counted) where
+    -- 7 is given
+    pub counts-refused : counted .fits ≡ false → First (chainRows f) 7 0
+    counts-refused k = passed {r = apartRow (netFor f [])} (λ place a. joined-passes (columnsOf f) [] T e a) (here-now counts-fail (counts-fail-applies (columnsOf f) [] S k))
+
+    -- neither is
+    pub chain-judged : counted .fits ≡ true → {r : Checked} → Judges (stuckRow f ∷ []) f r → Judges (chainRows f) f r
+    chain-judged k j = record {
+      verdict = passed {r = apartRow (netFor f [])} (λ place a. joined-passes (columnsOf f) [] T e a) (passed {r = countsRow (netFor f [])} (λ place a. counts-pass (columnsOf f) [] S k a) (j .verdict));
+      accepted = j .accepted;
+      refused = j .refused;
+    }
+
+pub counts-are : (f : Sheet) {counted : Counted} → Smallest (f .n) (f .m) (f .source) (f .sink) (f .produced) (f .consumed) counted → counted .fits ≡ true → CountsOf f (counted .q)
+counts-are f {counted} S k = record { entries = S .entries; counts = are-counts (columnsOf f) (counted .q) S k; beyond = S .beyond }
+
+module _ (s : List ℕ) {reading : Reading} (R : Reads s reading) where
+  pub read-refused : (reading .number ≡ 0 → ⊥) → First (checkRows s) (reading .number) (reading .place)
+  read-refused e = extend (readRows s) (chainRows (sheetOf s)) (R .verdict) e
+
+  pub read-judged : reading .number ≡ 0 → {r : Checked} → Judges (chainRows (reading .sheet)) (reading .sheet) r → Judges (checkRows s) (sheetOf s) r
+  read-judged e {r} j =
+      let k = subst (λ (f : Sheet). Judges (chainRows f) f r) (R .accepted e) j in
+      record { verdict = append (readRows s) (all-passed (R .verdict) e) (k .verdict); accepted = k .accepted; refused = k .refused }

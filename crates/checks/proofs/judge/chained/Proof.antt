@@ -1,0 +1,62 @@
+use native.Mathlib.Omega.{arith}
+use borrow.Author.Tests.{not-true, not-false}
+use borrow.Author.Needs.{needs}
+use Rattle.counts.proofs.RowLaws.{counted-chain}
+use Rattle.checks.proofs.CheckLaws.{judged-refused, apart-refused, counts-refused, counts-are, chain-judged}
+use Rattle.checks.proofs.judge.chained.Statement.{statement}
+use Rattle.checks.proofs.judge.chained.Tie as tie
+
+joined-requires : tie.Need-joined-requires
+joined-requires c κs = search needs
+
+refused-requires : tie.Need-refused-requires
+refused-requires c κs = search needs
+
+returns : tie.Need-returns
+returns c =
+    let j = c .before .before in
+    judged-refused 6 0 (λ e. omega arith) (apart-refused (j .before .before .before .before .before .before .before .args .sheet) (j .joined .ensures) (not-true _ (c .before .if1 .taken))) (c .refused .ensures)
+
+counts-requires : tie.Need-counts-requires
+counts-requires c κs = search needs
+
+refused-requires-2 : tie.Need-refused-requires-2
+refused-requires-2 c κs = search needs
+
+returns-2 : tie.Need-returns-2
+returns-2 c =
+    let k = c .before .before .before in
+    let j = k .before .before .before .before .before .before in
+    judged-refused 7 0 (λ e. omega arith)
+    (counts-refused (j .before .before .before .before .before .before .before .args .sheet) (j .joined .ensures) (not-false _ (k .before .before .before .before .before .if1 .left)) (k .counts .ensures) (not-true _ (c .before .if2 .taken))) (c .refused2 .ensures)
+
+wide-counts-requires : tie.Need-wide-counts-requires
+wide-counts-requires c κs = search needs
+
+fired-requires : tie.Need-fired-requires
+fired-requires c κs =
+    let k = c .before .before .before .before .before in
+    let a = k .before .before .before .before .before .before .before .before .before .before .before .before .before in
+    let fits = not-false _ (c .before .before .before .if2 .left) in
+    (rw (c .wide-counts .ensures) (counted-chain (a .pre .0) (k .counts .ensures) fits), (rw (c .wide-counts .ensures) (counts-are (a .args .sheet) (k .counts .ensures) fits), a .pre .1))
+
+returns-3 : tie.Need-returns-3
+returns-3 c =
+    let w = c .before in
+    let k = w .before .before .before .before .before in
+    let j = k .before .before .before .before .before .before in
+    chain-judged (j .before .before .before .before .before .before .before .args .sheet) (j .joined .ensures) (not-false _ (k .before .before .before .before .before .if1 .left)) (k .counts .ensures) (not-false _ (w .before .before .before .if2 .left)) (c .fired .ensures)
+
+pub chained-spec : {M : Type 1} → statement M
+chained-spec =
+    tie.close
+    (tie.spec
+    joined-requires
+    refused-requires
+    returns
+    counts-requires
+    refused-requires-2
+    returns-2
+    wide-counts-requires
+    fired-requires
+    returns-3)
