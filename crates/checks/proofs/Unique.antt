@@ -1,0 +1,77 @@
+-- No second answer meets the checks' contract.
+use Prim.Native.Nat.{ℕ, _<_}
+use mathlib.Core.Path.{_≡_, sym, ap, subst, _∙_}
+use mathlib.Core.List.{List}
+use mathlib.Core.Logic.{⊎-elim}
+use native.Mathlib.Decide.{ℕ-discrete}
+use lib.ListN.{length, take}
+use lib.Seq.{ext-getD, getD-take}
+use Rattle.lists.specs.Front.{at}
+use Rattle.lists.proofs.Order.{lt-or-ge}
+use Rattle.refusals.proofs.FirstLaws.{unique}
+use Rattle.dataflow.specs.Counts.{sum}
+use Rattle.dataflow.specs.Lists.{RoundList}
+use Rattle.dataflow.proofs.ListLaws.{list-once}
+use Rattle.sheet.specs.declared.Sheet.{Sheet}
+use Rattle.firing.proofs.Unique.{heads-unique, nexts-unique}
+use Rattle.checks.specs.declared.Checked.{Checked}
+use Rattle.checks.specs.Check.{netFor, delaysFor, Ready, refusedBy, Checks}
+use Rattle.checks.proofs.CheckLaws.{counts-of-once}
+
+-- the lists of an answer have their lengths
+pub record Sized (r : Checked) : Type 0 where
+  pub heads : length (r .head) ≡ 32
+  pub nexts : length (r .next) ≡ 64
+  pub entries : length (r .list) ≡ 256
+
+module _ (r r′ : Checked) (z : Sized r) (z′ : Sized r′) where
+  same-ready : (f : Sheet) → Ready f r → Ready f r′ → r .number ≡ r′ .number → r .place ≡ r′ .place → r ≡ r′
+  same-ready f h h′ number place = λ i. record {
+    number = number i;
+    place = place i;
+    sheet = sheet i;
+    total = total i;
+    q = q i;
+    delay = delay i;
+    head = head i;
+    next = next i;
+    list = list i;
+  }
+    where
+      sheet : r .sheet ≡ r′ .sheet
+      sheet = h .sheet ∙ sym (h′ .sheet)
+
+      q : r .q ≡ r′ .q
+      q = counts-of-once f (r .q) (r′ .q) (h .counts) (h′ .counts)
+
+      total : r .total ≡ r′ .total
+      total = h .total ∙ ap (λ (x : List ℕ). sum (f .n) (at x)) q ∙ sym (h′ .total)
+
+      delay : r .delay ≡ r′ .delay
+      delay = h .delays ∙ sym (h′ .delays)
+
+      head : r .head ≡ r′ .head
+      head = heads-unique (f .n) (f .m) (f .sink) (r .head) (r .next) (r′ .head) (r′ .next) (h .threads) (h′ .threads) (z .heads) (z′ .heads)
+
+      next : r .next ≡ r′ .next
+      next = nexts-unique (f .n) (f .m) (f .sink) (r .head) (r .next) (r′ .head) (r′ .next) (h .threads) (h′ .threads) (z .nexts) (z′ .nexts)
+
+      front : take (r .total) (r .list) ≡ take (r .total) (r′ .list)
+      front = list-once (netFor f (r .q)) (at (r .q)) (take (r .total) (r′ .list)) (h .round)
+          (subst (λ (k : ℕ). RoundList (netFor f (r .q)) (delaysFor f (r .q)) (take k (r′ .list))) (sym total) (subst (λ (x : List ℕ). RoundList (netFor f x) (delaysFor f x) (take (r′ .total) (r′ .list))) (sym q) (h′ .round)))
+
+      within : (k : ℕ) → k < r .total → at (r .list) k ≡ at (r′ .list) k
+      within k b = sym (getD-take (r .total) (r .list) k 0 b) ∙ ap (λ (x : List ℕ). at x k) front ∙ getD-take (r .total) (r′ .list) k 0 b
+
+      list : r .list ≡ r′ .list
+      list = ext-getD 0 (r .list) (r′ .list) (z .entries ∙ sym (z′ .entries)) (λ k b. ⊎-elim (within k) (λ c. h .rest k c ∙ sym (h′ .rest k (rw (sym total) c))) (lt-or-ge k (r .total)))
+
+  pub check-unique : (s : List ℕ) → Checks s r → Checks s r′ → r ≡ r′
+  check-unique s p p′ = go (ℕ-discrete (r .number) 0)
+    where
+      same : (r .number ≡ r′ .number) × (r .place ≡ r′ .place)
+      same = unique (p .verdict) (p′ .verdict)
+
+      go : Dec (r .number ≡ 0) → r ≡ r′
+      go (yes e) = same-ready _ (p .accepted e) (p′ .accepted (sym (same .0) ∙ e)) (same .0) (same .1)
+      go (no n) = p .refused n ∙ (λ i. refusedBy (same .0 i) (same .1 i)) ∙ sym (p′ .refused (λ e. n (same .0 ∙ e)))
