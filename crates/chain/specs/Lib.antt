@@ -1,1 +1,2 @@
 pub mod Chain
+pub mod Ceiling

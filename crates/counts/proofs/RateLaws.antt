@@ -1,13 +1,14 @@
 -- Counts, rates and tokens on one queue.
-use Prim.Native.Nat.{ℕ, _+_, _-_, _*_, _/_, _≤_, _<_}
+use Prim.Native.Nat.{ℕ, _+_, _*_, _≤_, _<_}
 use mathlib.Core.Path.{_≡_, sym}
 use mathlib.Core.List.{List}
-use native.Mathlib.Nat.{mul-le-mul-left, mul-le-mul-right, lt-of-mul-lt-mul-right, div-mul-le-self, lt-div-mul-add}
+use native.Mathlib.Nat.{mul-le-mul-left, mul-le-mul-right, lt-of-mul-lt-mul-right}
 use native.Mathlib.Omega.{arith}
 use lib.ListN.{length, set, length-set}
 use Rattle.lists.specs.Front.{at}
+use Rattle.chain.specs.Ceiling.{Ceiling}
 use Rattle.chain.specs.Chain.{Chain}
-use Rattle.counts.specs.Raising.{QueueFits, Ceiling, Raises, Ones}
+use Rattle.counts.specs.Raising.{QueueFits, Raises, Ones}
 use Rattle.lists.proofs.StoreLaws.{after-store}
 
 pub queue-fits : {n m : ℕ} {source sink produced consumed : List ℕ} → Chain n m source sink produced consumed → (e : ℕ) → e < m → QueueFits source sink produced consumed e
@@ -29,15 +30,6 @@ ones-more v x q h e O =
 
 pub tokens-small : {count rate : ℕ} → count ≤ 256 → rate ≤ 64 → count * rate ≤ 16384
 tokens-small {count} h k = let a = mul-le-mul-left count k in omega arith
-
-pub ceiling-is : (tokens rate : ℕ) → 1 ≤ rate → Ceiling tokens rate ((tokens + rate - 1) / rate)
-ceiling-is tokens rate h =
-    record {
-      enough = omega (arith, lt-div-mul-add {a = tokens + rate - 1} h);
-      least = λ x k.
-          let below = lt-of-mul-lt-mul-right rate {m = (tokens + rate - 1) / rate} {n = x + 1} (omega (arith, div-mul-le-self (tokens + rate - 1) rate)) in
-          omega arith;
-    }
 
 module _ {source sink produced consumed q : List ℕ} {e station count made taken : ℕ} where
   -- the source makes fewer tokens than the sink takes

@@ -31,11 +31,6 @@ pub record QueueFits (source sink produced consumed : List ℕ) (e : ℕ) : Type
 abbrev pub Balanced : (source sink produced consumed : List ℕ) (x : ℕ → ℕ) (e : ℕ) → Type 0
 Balanced source sink produced consumed x e = x (at source e) * at produced e ≡ x (at sink e) * at consumed e
 
--- r is the least number of firings that move so many tokens
-pub record Ceiling (tokens rate r : ℕ) : Type 0 where
-  pub enough : tokens ≤ r * rate
-  pub least : (x : ℕ) → tokens ≤ x * rate → r ≤ x
-
 -- The station is at an end of queue e. The count is above its own, and every vector at or above q that balances queue e reaches it.
 pub record Raises (source sink produced consumed q : List ℕ) (e station count : ℕ) : Type 0 where
   pub end : (n : ℕ) → at source e < n → at sink e < n → station < n

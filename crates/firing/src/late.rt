@@ -2,7 +2,7 @@
 ghost use Prim.Native.Nat.{ℕ, _+_, _≤_, _<_};
 ghost use Rattle.lists.specs.Front.{at};
 ghost use Rattle.firing.specs.Late.{Readable, LatestEnd, EndsAfter, LateCounts};
-use crate::later;
+use chain::larger;
 use chain::wide32;
 
 // The latest finish, which is that of the last copy of some station. One step for each station.
@@ -19,7 +19,7 @@ pub fn latest_end(
     let mut latest = 0;
     for v in 0..n {
         let place = (base[v] + q[v] - 1) as usize;
-        latest = later(latest, table[place] + wide32(time[v]));
+        latest = larger(latest, table[place] + wide32(time[v]));
     }
     latest
 }

@@ -1,7 +1,4 @@
 // Firing lists, and the time table of its copies.
-ghost use mathlib.Core.Path.{_≡_};
-ghost use Prim.Native.Nat.{max};
-
 mod fire;
 mod late;
 mod scan;
@@ -20,10 +17,4 @@ pub use times::time_table;
 pub struct Threaded {
     pub head: [u16; 32],
     pub next: [u16; 64],
-}
-
-pub(crate) fn later(a: u32, b: u32) -> u32
-    ensures { λ r. ⌜ r ≡ max a b ⌝ }
-{
-    if a < b { b } else { a }
 }

@@ -6,7 +6,7 @@ ghost use Rattle.dataflow.specs.Counts.{sum};
 ghost use Rattle.firing.specs.Into.{Threads};
 ghost use Rattle.chain.specs.Chain.{CountedChain};
 ghost use Rattle.firing.specs.Times.{Bases, HoldsUp, HeldSmall, Waits, StartsAt, Ordered, Tabled};
-use crate::later;
+use chain::larger;
 use chain::wide;
 use chain::wide32;
 
@@ -78,7 +78,7 @@ fn start_of(
             wide32(time[u]),
             table,
         );
-        latest = later(latest, done);
+        latest = larger(latest, done);
         e = wide(next[e]);
     }
     latest

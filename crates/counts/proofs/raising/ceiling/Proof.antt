@@ -1,5 +1,5 @@
 use borrow.Author.Needs.{needs}
-use Rattle.counts.proofs.RateLaws.{ceiling-is}
+use Rattle.chain.proofs.CeilingLaws.{ceiling-is}
 use Rattle.counts.proofs.raising.ceiling.Statement.{statement}
 use Rattle.counts.proofs.raising.ceiling.Tie as tie
 

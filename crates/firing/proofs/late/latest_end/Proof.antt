@@ -49,11 +49,11 @@ sub-place c = omega (arith, placed (c .before .before))
 cast-place : tie.Need-cast-place Inv-loop μ-loop
 cast-place c = omega (arith, placed (c .before .before))
 
-mul-later : tie.Need-mul-later Inv-loop μ-loop
-mul-later c = omega (arith, placed (c .before .before))
+mul-larger : tie.Need-mul-larger Inv-loop μ-loop
+mul-larger c = omega (arith, placed (c .before .before))
 
-element-copy-out-later : tie.Need-element-copy-out-later Inv-loop μ-loop
-element-copy-out-later c = omega (arith, placed (c .before .before))
+element-copy-out-larger : tie.Need-element-copy-out-larger Inv-loop μ-loop
+element-copy-out-larger c = omega (arith, placed (c .before .before))
 
 mul-wide32 : tie.Need-mul-wide32 Inv-loop μ-loop
 mul-wide32 c = search needs
@@ -64,14 +64,14 @@ element-copy-out-wide32 c = search needs
 wide32-requires : tie.Need-wide32-requires Inv-loop μ-loop
 wide32-requires c κs = search needs
 
-add-later : tie.Need-add-later Inv-loop μ-loop
-add-later c =
+add-larger : tie.Need-add-larger Inv-loop μ-loop
+add-larger c =
     let i = c .before .before .before .before .before in
     let a = i .before .before in
     omega (arith, c .wide32 .ensures .1, a .pre .starts (at (a .args .base .now) (i .before .loop .v) + at (a .args .q .now) (i .before .loop .v) - 1))
 
-later-requires : tie.Need-later-requires Inv-loop μ-loop
-later-requires c κs = search needs
+larger-requires : tie.Need-larger-requires Inv-loop μ-loop
+larger-requires c κs = search needs
 
 add-v : tie.Need-add-v Inv-loop μ-loop
 add-v c = search needs
@@ -83,7 +83,7 @@ loop-again : tie.Need-loop-again Inv-loop μ-loop
 loop-again c =
     let w = c .before in
     let i = w .before .before .before .before .before in
-    (search needs, rw (c .later .ensures, w .wide32 .ensures .0, begins i) (end-more _ _ _ _ (i .before .loop .inv .1)))
+    (search needs, rw (c .larger .ensures, w .wide32 .ensures .0, begins i) (end-more _ _ _ _ (i .before .loop .inv .1)))
 
 returns : tie.Need-returns Inv-loop μ-loop
 returns c =
@@ -105,13 +105,13 @@ latest-end-spec =
     add-place
     sub-place
     cast-place
-    mul-later
-    element-copy-out-later
+    mul-larger
+    element-copy-out-larger
     mul-wide32
     element-copy-out-wide32
     wide32-requires
-    add-later
-    later-requires
+    add-larger
+    larger-requires
     add-v
     loop-less
     loop-again

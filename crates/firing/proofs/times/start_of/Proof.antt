@@ -105,8 +105,8 @@ held-requires c κs =
       search needs,
     )
 
-later-requires : tie.Need-later-requires Inv-loop μ-loop
-later-requires c κs = search needs
+larger-requires : tie.Need-larger-requires Inv-loop μ-loop
+larger-requires c κs = search needs
 
 mul-wide-3 : tie.Need-mul-wide-3 Inv-loop μ-loop
 mul-wide-3 c = search needs
@@ -134,7 +134,7 @@ loop-again c =
     let up = rw (w323 .0, w2, h .before .before .before .before .before .before .before .before .before .last-token .ensures, h .before .before .before .before .before .before .before .before .before .before .wide32 .ensures .0, h .before .before .before .before .wide322 .ensures .0) at (h .held .ensures) in
     let to = b .goes (i .loop-test .taken) in
     let u : at (z .args .source .now) e ≤ z .args .n = omega (arith, leaves i) in
-    rw (c .wide3 .ensures .0, c .before .before .later .ensures)
+    rw (c .wide3 .ensures .0, c .before .before .larger .ensures)
     (start-more _ _ _ _ _ _ _ _ _ _ _ _ e (i .loop-test .taken) to (z .pre .0 .chain .makes e (i .loop-test .taken)) _ _ (z .pre .1 .1 .begins .is (at (z .args .source .now) e) u) up
     (omega (arith, w323, ap (at (z .args .time .now)) w2)) b (z .pre .1 .0 .more e (i .loop-test .taken)))
 
@@ -171,7 +171,7 @@ start-of-spec =
     element-copy-out-wide32-3
     wide32-requires-3
     held-requires
-    later-requires
+    larger-requires
     mul-wide-3
     element-copy-out-wide-3
     wide-requires-3
