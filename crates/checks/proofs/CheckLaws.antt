@@ -6,7 +6,7 @@ use mathlib.Core.List.{List, [], _∷_, _++_}
 use mathlib.Core.Logic.{⊎-elim}
 use native.Mathlib.Nat.{le-dest}
 use native.Mathlib.Omega.{arith}
-use lib.ListN.{length, take, drop, replicate}
+use lib.ListN.{length, take, drop, replicate, length-take}
 use lib.Seq.{ext-getD, take-at, getD-append-add, getD-drop}
 use Rattle.lists.specs.Front.{at}
 use Rattle.lists.specs.Test.{Tells}
@@ -20,15 +20,17 @@ use Rattle.dataflow.specs.Lists.{RoundList}
 use Rattle.dataflow.specs.Refusals.{apartRow, countsRow}
 use Rattle.dataflow.specs.Stuck.{Stuck}
 use Rattle.dataflow.proofs.CountLaws.{counts-once}
+use Rattle.dataflow.proofs.ListLaws.{list-run, list-fired, round-length}
 use Rattle.dataflow.proofs.StuckLaws.{stuck-cannot-fire, round-of-list}
 use Rattle.sheet.specs.declared.Sheet.{Sheet}
 use Rattle.sheet.specs.declared.Reading.{Reading}
 use Rattle.sheet.specs.Format.{sheetOf}
 use Rattle.sheet.specs.Read.{readRows, Reads}
-use Rattle.chain.specs.Chain.{CountedChain, delaysOf}
+use Rattle.chain.specs.Chain.{DelaysGiven, CountedChain, delaysOf}
 use Rattle.chain.proofs.ChainLaws.{sound}
 use Rattle.firing.specs.Into.{Threads}
 use Rattle.firing.specs.Fire.{Fires}
+use Rattle.firing.specs.Times.{Ordered}
 use Rattle.firing.proofs.FireLaws.{written}
 use Rattle.firing.proofs.PeriodLaws.{round-wanted, round-stuck}
 use Rattle.counts.specs.declared.Counted.{Counted}
@@ -56,7 +58,7 @@ counts-of-once f q q′ c c′ =
     (λ v h. ⊎-elim (λ l. counts-once (netFor f q) (at q) (at q′) (c .counts) (any-counts f q′ q (at q′) (c′ .counts)) v l) (λ l. c .beyond v l ∙ sym (c′ .beyond v l)) (lt-or-ge v (f .n)))
 
 module _ (f : Sheet) {total : ℕ} {q : List ℕ} (c : CountedChain (f .n) (f .m) (f .source) (f .sink) (f .produced) (f .consumed) q total) (of : CountsOf f q) {delay : List ℕ} (wide : delay ≡ f .delay)
-  {fires : Bool} {list : List ℕ} (F : Fires (f .n) (f .m) (f .source) (f .sink) (f .produced) (f .consumed) delay q total fires (replicate 256 0) list) where
+    {fires : Bool} {list : List ℕ} (F : Fires (f .n) (f .m) (f .source) (f .sink) (f .produced) (f .consumed) delay q total fires (replicate 256 0) list) where
   -- 8 is given
   pub stuck-refused : fires ≡ false → First (stuckRow f ∷ []) 8 0
   stuck-refused e = here-now stuck (q, of, subst (λ (d : List ℕ). Stuck (netFor f q) (delaysOf (f .m) d)) wide (round-stuck c F (f .time) e))
@@ -77,9 +79,11 @@ module _ (f : Sheet) {total : ℕ} {q : List ℕ} (c : CountedChain (f .n) (f .m
             stuck-cannot-fire (netFor f q) (sound c (f .time)) (delaysFor f q) (subst (λ (x : List ℕ). Stuck (netFor f x) (delaysFor f x)) (counts-of-once f (a .0) q (a .1) of) (a .2))
             (round-of-list (netFor f q) (sound c (f .time)) (delaysFor f q) (F .made) round-list)
 
-    pub is-ready : {head next : List ℕ} → Threads (f .n) (f .m) (f .sink) head next
+    pub is-ready : {head next : List ℕ} → Threads (f .n) (f .m) (f .sink) head next → DelaysGiven (f .m) (f .delay)
         → Ready f (record { number = 0; place = 0; sheet = f; total = total; q = q; delay = delay; head = head; next = next; list = list })
-    is-ready threads = record {
+    is-ready threads given = record {
+      chain = c .chain;
+      given = given;
       sheet = refl;
       counts = of;
       total = sym (c .adds);
@@ -126,3 +130,25 @@ module _ (s : List ℕ) {reading : Reading} (R : Reads s reading) where
   read-judged e {r} j =
       let k = subst (λ (f : Sheet). Judges (chainRows f) f r) (R .accepted e) j in
       record { verdict = append (readRows s) (all-passed (R .verdict) e) (k .verdict); accepted = k .accepted; refused = k .refused }
+
+module _ {f : Sheet} {r : Checked} (h : Ready f r) where
+  -- a chain with its counts
+  pub ready-counted : CountedChain (f .n) (f .m) (f .source) (f .sink) (f .produced) (f .consumed) (r .q) (r .total)
+  ready-counted = record {
+    chain = h .chain;
+    positive = h .counts .counts .balances .positive;
+    beyond = h .counts .beyond;
+    balanced = λ e k. h .counts .counts .balances .balanced (e, k);
+    adds = sym (h .total);
+    few = h .few;
+  }
+
+  -- and an order in which its round can be fired
+  pub ready-ordered : Ordered (f .n) (f .m) (f .source) (f .sink) (f .produced) (f .consumed) (r .delay) (f .time) (r .q) (r .total) (r .list)
+  ready-ordered =
+      let l = subst (λ (d : List ℕ). RoundList (netFor f (r .q)) (delaysOf (f .m) d) (take (r .total) (r .list))) (sym (h .delays)) (h .round) in
+      record {
+        long = omega (arith, length-take (r .total) (r .list), round-length (netFor f (r .q)) (delaysOf (f .m) (r .delay)) (take (r .total) (r .list)) l, h .total);
+        run = list-run (netFor f (r .q)) (at (r .q)) l;
+        whole = list-fired (netFor f (r .q)) (at (r .q)) l;
+      }

@@ -15,6 +15,7 @@ use Rattle.dataflow.specs.Stuck.{Stuck}
 use Rattle.sheet.specs.declared.Sheet.{Sheet}
 use Rattle.sheet.specs.Format.{sheetOf}
 use Rattle.sheet.specs.Read.{readRows, blank}
+use Rattle.chain.specs.Chain.{Chain, DelaysGiven}
 use Rattle.firing.specs.Into.{Threads}
 use Rattle.checks.specs.declared.Checked.{Checked}
 
@@ -59,8 +60,10 @@ chainRows f = apartRow (netFor f []) ∷ countsRow (netFor f []) ∷ stuckRow f 
 abbrev pub checkRows : List ℕ → List Row
 checkRows s = readRows s ++ chainRows (sheetOf s)
 
--- what is worked out of a sheet f that no check refuses: its counts and their sum, its delays, threads through its queues, and its round list
+-- what is worked out of a sheet f that no check refuses: its counts and their sum, its delays, threads through its queues, and its round list; such a sheet is within limits
 pub record Ready (f : Sheet) (r : Checked) : Type 0 where
+  pub chain : Chain (f .n) (f .m) (f .source) (f .sink) (f .produced) (f .consumed)
+  pub given : DelaysGiven (f .m) (f .delay)
   pub sheet : r .sheet ≡ f
   pub counts : CountsOf f (r .q)
   pub total : r .total ≡ sum (f .n) (at (r .q))

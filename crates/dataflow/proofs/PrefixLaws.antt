@@ -1,9 +1,8 @@
 -- A firing list in the making: by the numbers of firings done it goes on, is complete, or stalls.
-use mathlib.Core.Path.{_≡_, refl, sym, ap, subst}
+use mathlib.Core.Path.{_≡_, refl, sym, ap, subst, _∙_}
 use mathlib.Core.List.{List, [], _∷_, _++_, append-assoc, append-nil}
 use mathlib.Core.Logic.{inl, inr}
 use Prim.Native.Nat.{ℕ, suc, _+_, _*_, _≤_, _<_}
-use native.Mathlib.Nat.{mul-le-mul-right}
 use native.Mathlib.Omega.{arith}
 use native.Mathlib.Decide.{ℕ-discrete, decLt}
 use lib.ListN.{length, take, getD, length-append, List·getD-append}
@@ -14,9 +13,9 @@ use Rattle.dataflow.specs.Counts.{sum}
 use Rattle.dataflow.specs.Runs.{State, whenever, initially, fire, after, Run, ended, fires}
 use Rattle.dataflow.specs.Lists.{Next, FiringList, complete, next}
 use Rattle.dataflow.proofs.SumLaws.{sum-none, sum-same, sum-less, sum-tight}
-use Rattle.dataflow.proofs.ListLaws.{sum-one, list-run, list-fired}
-use Rattle.dataflow.proofs.RunLaws.{HoldsAt, holds-initially, holds-fire, holds}
-use Rattle.dataflow.proofs.TakenLaws.{after-append, after-rises, run-append, ready-counts, counts-ready}
+use Rattle.dataflow.proofs.ListLaws.{sum-one, list-length}
+use Rattle.dataflow.proofs.RunLaws.{HoldsAt, holds}
+use Rattle.dataflow.proofs.TakenLaws.{after-append, run-append, ready-counts, counts-ready}
 use Rattle.dataflow.proofs.Decide.{ready-or-lacking}
 use Rattle.dataflow.proofs.StallLaws.{Short}
 use Rattle.dataflow.proofs.CompleteLaws.{Stalled, short-of}
@@ -130,34 +129,11 @@ module _ (G : Net) (D : G .Queue → ℕ) where
             let n = subst (λ (x : List ℕ). Next G wanted (after G (initially G D) x) (getD l′ (length l) 0)) (sym front) (prefix-at p′ (length l) b) in
             none-can (getD l′ (length l) 0) (n .left) (ready-counts G D (after G (initially G D) l) (holds G D (prefix-run wanted p)) (getD l′ (length l) 0) (n .ready))
 
-  -- A list that stalls can't be completed in another way.
-  module _ (wanted : ℕ → ℕ) (s : Stalled G wanted D) where
-    below : {S : State G} {l : List ℕ} → Run G S l → ((e : G .Queue) → HoldsAt G D S e) → ((w : ℕ) → S .fired w ≤ s .fired w)
-        → ((w : ℕ) → w < G .stations → after G S l .fired w ≤ wanted w) → (w : ℕ) → after G S l .fired w ≤ s .fired w
-    below ended h few most w = few w
-    below {S} (fires {v = v} {l = l} here ready run) h few most w = below run (λ e. holds-fire G D S v ready e (h e)) (λ u. go u (ℕ-discrete u v)) most w
-      where
-        left : suc (S .fired v) ≤ wanted v
-        left = pick (ℕ-discrete v v) (after-rises G (fire G v S) l v)
-          where
-            pick : (x : Dec (v ≡ v)) → S .fired v + whenever x 1 ≤ after G (fire G v S) l .fired v → suc (S .fired v) ≤ wanted v
-            pick (yes x) a = omega (arith, most v here)
-            pick (no x) a = absurd (x refl)
+    list-prefix : {S : State G} {m : List ℕ} (l : List ℕ) → S ≡ after G (initially G D) l → Prefix wanted l → FiringList G wanted S m → Prefix wanted (l ++ m)
+    list-prefix l e p (complete h) = rw (append-nil l) p
+    list-prefix l e p (next {v = v} {l = m} n t) =
+        rw (sym (append-assoc l (v ∷ []) m)) (list-prefix (l ++ (v ∷ [])) (ap (fire G v) e ∙ sym (after-append G (initially G D) l (v ∷ []))) (more p (rw e at n)) t)
 
-        mine : S .fired v < s .fired v
-        mine = elim (decLt (S .fired v) (s .fired v)) [ yes a ↦ a | no a ↦ absurd (blocked (omega (arith, few v))) ]
-          where
-            blocked : s .fired v ≡ S .fired v → ⊥
-            blocked e =
-                let x = s .short v (omega (arith, left)) in
-                let q : G .Queue = x .queue in
-                omega (arith, x .lacks, ready-counts G D S h v ready q (x .to), mul-le-mul-right (G .produced q) (few (G .source q)), ap (λ (y : ℕ). y * G .consumed q) e)
-
-        go : (u : ℕ) (x : Dec (u ≡ v)) → S .fired u + whenever x 1 ≤ s .fired u
-        go u (yes x) = rw x (omega (arith, mine))
-        go u (no x) = omega (arith, few u)
-
-    pub stalled-cannot : ((v : ℕ) → 1 ≤ wanted v → v < G .stations) → (l : List ℕ) → ¬ FiringList G wanted (initially G D) l
-    stalled-cannot real l f =
-        let e = list-fired G wanted f (s .v) (real (s .v) (omega (arith, s .left))) in
-        omega (arith, s .left, e, below (list-run G wanted f) (holds-initially G D) (λ w. omega arith) (λ w h. omega (arith, list-fired G wanted f w h)) (s .v))
+    -- where firings are left and no station that has some can fire, no list is complete
+    pub stalled-cannot : {l : List ℕ} → Prefix wanted l → length l < sum (G .stations) wanted → ((w : ℕ) → firedBy l w < wanted w → ¬ FedBy (firedBy l) w) → (l′ : List ℕ) → ¬ FiringList G wanted (initially G D) l′
+    stalled-cannot p few none-can l′ f = omega (arith, prefix-longest p (list-prefix [] refl none f) none-can, list-length G wanted f, sum-none (G .stations))

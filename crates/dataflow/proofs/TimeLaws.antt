@@ -150,6 +150,18 @@ module _ (G : Net) (W : Sound G) (D : G .Queue → ℕ) where
                   is = omega (arith, is, table v i c .after e (k .0) to x, starts-rise (G .source e) h (k .0) (m .from) later (inside G W e x .from .high));
                 })
 
+  -- a table that agrees on every copy is as good
+  pub times-same : (s s′ : ℕ → ℕ → ℕ) → ((v i : ℕ) → Copy G v i → s v i ≡ s′ v i) → TimeTable G D s → TimeTable G D s′
+  times-same s s′ same t v i c = record {
+    after = λ e h to x. omega (arith, same (G .source e) h (inside G W e x .from), same v i c, t v i c .after e h to x);
+    is = pick (t v i c .is);
+  }
+    where
+      pick : (s v i ≡ 0) ⊎ Latest G D s v i → (s′ v i ≡ 0) ⊎ Latest G D s′ v i
+      pick (inl z) = inl (omega (arith, same v i c))
+      pick (inr l) =
+          inr (record { queue = l .queue; copy = l .copy; to = l .to; needed = l .needed; is = omega (arith, l .is, same v i c, same (G .source (l .queue)) (l .copy) (inside G W (l .queue) (l .needed) .from)) })
+
   -- The time table is the only solution of its equations.
   pub times-once : (R : ℕ) → Ranked G D (G .q) R → (s s′ : ℕ → ℕ → ℕ) → TimeTable G D s → TimeTable G D s′ → (v i : ℕ) → Copy G v i → s v i ≡ s′ v i
   times-once R r s s′ t t′ v i c =

@@ -1,12 +1,12 @@
 -- The laws of tables and of what is written over a list's first entries.
 use Prim.Native.Nat.{ℕ, zero, suc, _+_, _≤_, _<_}
 use mathlib.Core.Path.{_≡_, refl, ap, _∙_}
-use mathlib.Core.List.{List, [], _∷_}
+use mathlib.Core.List.{List, [], _∷_, _++_}
 use native.Mathlib.Nat.{not-suc-le-zero, le-of-suc-le-suc}
 use native.Mathlib.Numerals.{add-one}
 use native.Mathlib.Omega.{arith}
 use lib.ListN.{length, set, length-append, length-drop, drop, List·getD-append}
-use lib.Seq.{getD-append-add, getD-drop}
+use lib.Seq.{getD-append-add, getD-drop, drop-at}
 use Rattle.lists.specs.Front.{at, table, front}
 
 pub length-table : (n : ℕ) (f : ℕ → ℕ) → length (table n f) ≡ n
@@ -57,3 +57,11 @@ at-front n f l k h = List·getD-append (table n f) (drop n l) 0 k (rw length-tab
 pub front-rest : (n : ℕ) (f : ℕ → ℕ) (l : List ℕ) (i : ℕ) → at (front n f l) (n + i) ≡ at l (n + i)
 unfolding front
 front-rest n f l i = (rw (length-table n f) at (getD-append-add (table n f) (drop n l) i 0)) ∙ getD-drop n l i 0
+
+pub drop-front : (n : ℕ) (f : ℕ → ℕ) (l : List ℕ) → drop n (front n f l) ≡ drop n l
+unfolding front
+drop-front n f l = drop-at (table n f) (drop n l) n (length-table n f)
+
+-- a list written over the first entries of another
+pub length-over : (v l : List ℕ) → length v ≤ length l → length (v ++ drop (length v) l) ≡ length l
+length-over v l h = simp (length-append, length-drop) (omega arith)

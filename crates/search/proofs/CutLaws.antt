@@ -25,8 +25,8 @@ pub record Clamped (low high F x : ℕ) : Type 0 where
 module _ (G : Net) (low high : ℕ → ℕ) (D E : G .Queue → ℕ) where
   -- the firings from low on and before high can be fired alone, from the delays that the firings before low leave
   module _ (cut : (e : G .Queue) → E e + low (G .sink e) * G .consumed e ≡ D e + low (G .source e) * G .produced e)
-    (closed : (e : G .Queue) → high (G .sink e) * G .consumed e ≤ D e + high (G .source e) * G .produced e)
-    (ordered : (v : ℕ) → low v ≤ high v) where
+      (closed : (e : G .Queue) → high (G .sink e) * G .consumed e ≤ D e + high (G .source e) * G .produced e)
+      (ordered : (v : ℕ) → low v ≤ high v) where
     abbrev Counts : State G → State G → Type 0
     Counts S S′ = (w : ℕ) → Clamped (low w) (high w) (S .fired w) (S′ .fired w + low w)
 
@@ -97,8 +97,8 @@ module _ (G : Net) (low high : ℕ → ℕ) (D E : G .Queue → ℕ) where
             record { run = fires s ready (x .run); ends = x .ends }
 
 module _ (G : Net) (W : Sound G) (keep : ℕ → ℕ) (fewer : (v : ℕ) → keep v ≤ G .q v) (D E : G .Queue → ℕ)
-  (cut : (e : G .Queue) → E e + keep (G .sink e) * G .consumed e ≡ D e + keep (G .source e) * G .produced e)
-  (l : List ℕ) (run : Run G (initially G D) l) (whole : (v : ℕ) → v < G .stations → after G (initially G D) l .fired v ≡ G .q v) where
+    (cut : (e : G .Queue) → E e + keep (G .sink e) * G .consumed e ≡ D e + keep (G .source e) * G .produced e)
+    (l : List ℕ) (run : Run G (initially G D) l) (whole : (v : ℕ) → v < G .stations → after G (initially G D) l .fired v ≡ G .q v) where
   abbrev second : List ℕ
   second = between keep (G .q) noneFired l
 

@@ -23,7 +23,7 @@ use Rattle.search.specs.Found.{Retimes}
 use Rattle.search.specs.declared.Found.{Found}
 
 module _ {n m : ℕ} {source sink produced consumed delay time q : List ℕ} {total target : ℕ} (c : CountedChain n m source sink produced consumed q total) {r : Found}
-  (h : Retimes n m source sink produced consumed delay time q total target r) where
+    (h : Retimes n m source sink produced consumed delay time q total target r) where
   abbrev G : Net
   G = netOf n m source sink produced consumed time q
 

@@ -45,7 +45,7 @@ module _ {n total : ℕ} {q late list : List ℕ} (c : Cuttable n total q late l
   }
 
   module _ {keep order : List ℕ} {place : ℕ} (k : Keeps n q late keep) (p : place ≡ 0 + length (between (at keep) (at q) noneFired (take total list)))
-    (o : order ≡ put zeros 0 (between (at keep) (at q) noneFired (take total list))) where
+      (o : order ≡ put zeros 0 (between (at keep) (at q) noneFired (take total list))) where
     pub first-fits : Gatherable total (replicate 32 0) keep list place order
     first-fits = record {
       few = c .most;

@@ -33,7 +33,7 @@ pub record Sized (r : Found) : Type 0 where
   pub starts : length (r .table) ≡ 256
 
 module _ (n m : ℕ) (source sink produced consumed delay time q : List ℕ) (total target : ℕ) (c : CountedChain n m source sink produced consumed q total)
-  (list : List ℕ) (o : Ordered n m source sink produced consumed delay time q total list) where
+    (list : List ℕ) (o : Ordered n m source sink produced consumed delay time q total list) where
   abbrev G : Net
   G = netOf n m source sink produced consumed time q
 

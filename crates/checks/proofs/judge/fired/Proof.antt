@@ -42,7 +42,7 @@ returns-2 c =
     let fires = not-false _ (c .if1 .left) in
     record {
       verdict = fires-passed (a .args .sheet) (a .pre .0) (a .pre .1 .0) (d .wide-delays .ensures) (l .fire-list .ensures) fires;
-      accepted = λ e. is-ready (a .args .sheet) (a .pre .0) (a .pre .1 .0) (d .wide-delays .ensures) (l .fire-list .ensures) fires (t .threads .ensures);
+      accepted = λ e. is-ready (a .args .sheet) (a .pre .0) (a .pre .1 .0) (d .wide-delays .ensures) (l .fire-list .ensures) fires (t .threads .ensures) (a .pre .1 .1);
       refused = λ z. absurd (z refl);
     }
 

@@ -1,0 +1,4 @@
+pub mod ListingLaws
+pub mod WorkLaws
+pub mod RowLaws
+pub mod HoldLaws

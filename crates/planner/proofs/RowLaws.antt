@@ -1,0 +1,123 @@
+-- Refusals 9, 10 and 11, as rows of the table.
+use Prim.Native.Nat.{ℕ, _-_, _*_, _≤_, _<_}
+use mathlib.Core.Path.{_≡_, refl, sym, subst, ap, ap₂}
+use mathlib.Core.List.{List, [], _∷_}
+use mathlib.Core.Logic.{_⊎_, inl, inr, ⊎-elim}
+use native.Mathlib.Omega.{arith}
+use lib.ListN.{length}
+use lib.IntN.{ℤ}
+use Rattle.lists.specs.Front.{at}
+use Rattle.refusals.specs.Table.{no-retiming, list-stuck, room}
+use Rattle.refusals.specs.First.{Row, Passed, First}
+use Rattle.refusals.proofs.FirstLaws.{here-now, passed, none}
+use Rattle.dataflow.specs.Counts.{sum}
+use Rattle.dataflow.specs.Lists.{StartList, RoundList}
+use Rattle.dataflow.specs.Retiming.{whole, retimed, Serves}
+use Rattle.dataflow.specs.Refusals.{listRow}
+use Rattle.dataflow.specs.Sheet.{Below}
+use Rattle.dataflow.proofs.ListLaws.{list-same}
+use Rattle.dataflow.proofs.PlanLaws.{lists-never-stuck, back-once}
+use Rattle.dataflow.proofs.SumLaws.{sum-same}
+use Rattle.dataflow.proofs.WholeLaws.{retimed-is}
+use Rattle.sheet.specs.declared.Sheet.{Sheet}
+use Rattle.chain.specs.Chain.{delaysOf}
+use Rattle.checks.specs.declared.Checked.{Checked}
+use Rattle.checks.specs.Check.{netFor, delaysFor, CountsOf, Ready}
+use Rattle.checks.proofs.CheckLaws.{counts-of-once, ready-counted}
+use Rattle.search.specs.declared.Found.{Found}
+use Rattle.search.specs.Found.{NoneServes}
+use Rattle.search.proofs.FoundLaws.{new-delays}
+use Rattle.planner.specs.Lists.{NoList}
+use Rattle.planner.specs.Making.{Retimed, Begun, HasRoom}
+use Rattle.planner.specs.Plan.{retimingRow, listsRow, roomRow, Worked, startLength}
+use Rattle.planner.proofs.WorkLaws.{W, retimes, fires-round, worked, firings-are, starts-are}
+
+-- 9 is given
+pub none-serve : {c : Checked} {r : Found} {rows : List Row} → Ready (c .sheet) c
+    → NoneServes (c .sheet .n) (c .sheet .m) (c .sheet .source) (c .sheet .sink) (c .sheet .produced) (c .sheet .consumed) (c .delay) (c .sheet .time) (c .q) (c .total) (c .sheet .target) r
+    → First (retimingRow (c .sheet) ∷ rows) 9 0
+none-serve {c} h n =
+    let f = c .sheet in
+    here-now no-retiming
+    (c .q, h .counts, subst (λ (d : List ℕ). (z : ℕ → ℤ) → Serves (netFor f (c .q)) (delaysOf (f .m) d) (f .target) z → ⊥) (h .delays) (n .none))
+
+module _ {c : Checked} {r : Found} (h : Retimed c r) where
+  abbrev f : Sheet
+  f = c .sheet
+
+  -- or it isn't
+  pub serve-passed : Passed (retimingRow f)
+  serve-passed place a =
+      let q = counts-of-once f (a .0) (c .q) (a .1) (h .ready .counts) in
+      subst (λ (x : List ℕ). (z : ℕ → ℤ) → Serves (netFor f x) (delaysFor f x) (f .target) z → ⊥) q (a .2) (whole (at (r .retiming))) (retimes h .retiming .serves)
+
+  -- 10 is not given
+  pub lists-passed : Passed (listsRow f)
+  lists-passed place a = go (a .0) (a .1) (a .2) (counts-of-once f (a .0) (c .q) (a .3 .counts) (h .ready .counts)) (a .3) (a .4)
+    where
+      go : (q retiming : List ℕ) (back : ℕ) → q ≡ c .q → Worked f q retiming back
+          → listRow (netFor f q) (delaysFor f q) (retimed (netFor f q) (delaysFor f q) (whole (at retiming))) (at retiming) back .applies 0 → ⊥
+      go q retiming back e w x =
+          let w′ = subst (λ (y : List ℕ). Worked f y retiming back) e w in
+          lists-never-stuck (netFor f (c .q)) (W h) (delaysFor f (c .q)) (fires-round h) (at retiming) (w′ .retimes .serves .legal) back (w′ .backs .covers) 0
+          (subst (λ (y : List ℕ). listRow (netFor f y) (delaysFor f y) (retimed (netFor f y) (delaysFor f y) (whole (at retiming))) (at retiming) back .applies 0) e x)
+
+module _ {c : Checked} {r : Found} {back : ℕ} {firings : List ℕ} {starts : ℕ} (b : Begun c r back firings starts) where
+  abbrev g : Sheet
+  g = c .sheet
+
+  -- 10 is given
+  pub lists-stuck : {rows : List Row}
+      → NoList (g .n) (g .m) (g .source) (g .sink) (g .produced) (g .consumed) (c .delay) firings ⊎ NoList (g .n) (g .m) (g .source) (g .sink) (g .produced) (g .consumed) (r .delay) (c .q)
+      → First (listsRow g ∷ rows) 10 0
+  lists-stuck x = here-now list-stuck (c .q, r .retiming, back, worked (b .retimed) (b .backs), ⊎-elim (λ n. inl (no-start n)) (λ n. inr (no-round n)) x)
+    where
+      no-start : NoList (g .n) (g .m) (g .source) (g .sink) (g .produced) (g .consumed) (c .delay) firings → (l : List ℕ) → StartList (netFor g (c .q)) (delaysFor g (c .q)) (at (r .retiming)) back l → ⊥
+      no-start n l s =
+          n (g .time) (c .q) l
+          (list-same (netFor g (c .q)) (λ v. back * at (c .q) v - at (r .retiming) v) (at firings) (λ v k. sym (firings-are (b .retimed) (b .backs) (b .fires) v k))
+          (subst (λ (d : List ℕ). StartList (netFor g (c .q)) (delaysOf (g .m) d) (at (r .retiming)) back l) (sym (b .retimed .ready .delays)) s))
+
+      no-round : NoList (g .n) (g .m) (g .source) (g .sink) (g .produced) (g .consumed) (r .delay) (c .q)
+          → (l : List ℕ) → RoundList (netFor g (c .q)) (retimed (netFor g (c .q)) (delaysFor g (c .q)) (whole (at (r .retiming)))) l → ⊥
+      no-round n l s =
+          n (g .time) (c .q) l
+          (subst (λ (D : Below (g .m) → ℕ). RoundList (netFor g (c .q)) D l)
+          (retimed-is (netFor g (c .q)) (delaysFor g (c .q)) (at (r .retiming)) (delaysOf (g .m) (r .delay)) (new-delays (ready-counted (b .retimed .ready)) (retimes (b .retimed)))) s)
+
+  module _ (x y z : ℕ) where
+    -- 11 is given
+    pub short-refused : (x < starts) ⊎ ((y < c .total) ⊎ (z < c .total)) → First (roomRow g x y z ∷ []) 11 0
+    short-refused s = here-now room (c .q, r .retiming, back, worked (b .retimed) (b .backs), go s)
+      where
+        e : c .total ≡ sum (g .n) (at (c .q))
+        e = b .retimed .ready .total
+
+        go : (x < starts) ⊎ ((y < c .total) ⊎ (z < c .total)) → (x < startLength (g .n) (c .q) (r .retiming) back) ⊎ ((y < sum (g .n) (at (c .q))) ⊎ (z < sum (g .n) (at (c .q))))
+        go (inl k) = inl (omega (arith, b .adds, starts-are (b .retimed) (b .backs) (b .fires)))
+        go (inr (inl k)) = inr (inl (omega (arith, e)))
+        go (inr (inr k)) = inr (inr (omega (arith, e)))
+
+    -- or it isn't
+    pub room-passed : starts ≤ x → c .total ≤ y → c .total ≤ z → Passed (roomRow g x y z)
+    room-passed a k l place p = go (p .0) (p .1) (p .2) (counts-of-once g (p .0) (c .q) (p .3 .counts) (b .retimed .ready .counts)) (p .3) (p .4)
+      where
+        go : (q retiming : List ℕ) (back′ : ℕ) → q ≡ c .q → Worked g q retiming back′ → (x < startLength (g .n) q retiming back′) ⊎ ((y < sum (g .n) (at q)) ⊎ (z < sum (g .n) (at q))) → ⊥
+        go q retiming back′ e w (inr (inl s)) = omega (arith, b .retimed .ready .total, ap (λ (o : List ℕ). sum (g .n) (at o)) e)
+        go q retiming back′ e w (inr (inr s)) = omega (arith, b .retimed .ready .total, ap (λ (o : List ℕ). sum (g .n) (at o)) e)
+        go q retiming back′ e w (inl s) =
+            omega (arith, b .adds, starts-are (b .retimed) (b .backs) (b .fires), sum-same (g .n) (λ v. back′ * at q v - at retiming v) (λ v. back * at (c .q) v - at (r .retiming) v) (λ v o. same v o))
+          where
+            w′ : Worked g (c .q) retiming back′
+            w′ = subst (λ (o : List ℕ). Worked g o retiming back′) e w
+
+            mine : Worked g (c .q) (r .retiming) back
+            mine = worked (b .retimed) (b .backs)
+
+            entry : (v : ℕ) → v < g .n → at retiming v ≡ at (r .retiming) v
+            entry v o = omega (arith, w′ .retimes .least (at (r .retiming)) (mine .retimes .serves) v o, mine .retimes .least (at retiming) (w′ .retimes .serves) v o)
+
+            same : (v : ℕ) → v < g .n → back′ * at q v - at retiming v ≡ back * at (c .q) v - at (r .retiming) v
+            same v o =
+                let n = back-once (netFor g (c .q)) (W (b .retimed)) (at retiming) (at (r .retiming)) back′ back entry (w′ .backs) (mine .backs) in
+                rw (n, e, entry v o) refl
