@@ -143,6 +143,9 @@ module _ {f : Sheet} {r : Checked} (h : Ready f r) where
     few = h .few;
   }
 
+  pub ready-given : DelaysGiven (f .m) (r .delay)
+  ready-given = subst (DelaysGiven (f .m)) (sym (h .delays)) (h .given)
+
   -- and an order in which its round can be fired
   pub ready-ordered : Ordered (f .n) (f .m) (f .source) (f .sink) (f .produced) (f .consumed) (r .delay) (f .time) (r .q) (r .total) (r .list)
   ready-ordered =

@@ -2,3 +2,4 @@ pub mod ListingLaws
 pub mod WorkLaws
 pub mod RowLaws
 pub mod HoldLaws
+pub mod AnswerLaws

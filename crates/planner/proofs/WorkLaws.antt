@@ -14,11 +14,11 @@ use Rattle.dataflow.specs.Stuck.{RoundFires}
 use Rattle.dataflow.proofs.StuckLaws.{round-of-list}
 use Rattle.dataflow.proofs.SumLaws.{sum-above, sum-le, sum-times, sum-same}
 use Rattle.sheet.specs.declared.Sheet.{Sheet}
-use Rattle.chain.specs.Chain.{CountedChain, DelaysGiven}
+use Rattle.chain.specs.Chain.{CountedChain}
 use Rattle.chain.proofs.ChainLaws.{sound}
 use Rattle.checks.specs.declared.Checked.{Checked}
 use Rattle.checks.specs.Check.{netFor, delaysFor, Ready}
-use Rattle.checks.proofs.CheckLaws.{ready-counted}
+use Rattle.checks.proofs.CheckLaws.{ready-counted, ready-given}
 use Rattle.firing.proofs.PeriodLaws.{round-wanted}
 use Rattle.search.specs.declared.Found.{Found}
 use Rattle.search.specs.Found.{Retimes}
@@ -35,9 +35,6 @@ module _ {c : Checked} {r : Found} (h : Retimed c r) where
 
   counted : CountedChain (f .n) (f .m) (f .source) (f .sink) (f .produced) (f .consumed) (c .q) (c .total)
   counted = ready-counted (h .ready)
-
-  pub given : DelaysGiven (f .m) (c .delay)
-  given = subst (DelaysGiven (f .m)) (sym (h .ready .delays)) (h .ready .given)
 
   pub W : Sound (netFor f (c .q))
   W = sound counted (f .time)
@@ -98,7 +95,7 @@ module _ {c : Checked} {r : Found} (h : Retimed c r) where
   round-fireable = record {
     chain = h .ready .chain;
     threads = h .ready .threads;
-    delays = λ e. omega (arith, delays-fit counted (h .retimes) given e);
+    delays = λ e. omega (arith, delays-fit counted (h .retimes) (ready-given (h .ready)) e);
     wants = round-wanted counted;
   }
 
@@ -107,6 +104,6 @@ pub start-fireable : {c : Checked} {r : Found} {back : ℕ} {firings : List ℕ}
 start-fireable b = record {
   chain = b .retimed .ready .chain;
   threads = b .retimed .ready .threads;
-  delays = λ e. omega (arith, given (b .retimed) .most e);
+  delays = λ e. omega (arith, ready-given (b .retimed .ready) .most e);
   wants = record { adds = sym (b .adds); beyond = b .fires .rest; few = omega (arith, b .adds, starts-few (b .retimed) (b .backs) (b .fires)) };
 }

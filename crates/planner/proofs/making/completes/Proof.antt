@@ -1,15 +1,11 @@
 use borrow.Author.Needs.{needs}
+use Rattle.planner.proofs.WorkLaws.{round-fireable, start-fireable}
 use Rattle.planner.proofs.making.completes.Statement.{statement}
 use Rattle.planner.proofs.making.completes.Tie as tie
-use Rattle.planner.proofs.making.completes.Reads as reads
-use Rattle.planner.proofs.making.completes.Lts as lts
-use Rattle.planner.proofs.listing.both_complete.Reads as both-complete-reads
 
--- src/making.rt:155:5
 both-complete-requires : tie.Need-both-complete-requires
-both-complete-requires c κs = ?
+both-complete-requires c κs = let p = c .before .before .before .before .before .before .before .before .before .before .before .before .before .before .before .before .before .before .before .pre in (start-fireable p, round-fireable (p .retimed))
 
--- src/making.rt:142:1
 returns : tie.Need-returns
 returns c = search needs
 

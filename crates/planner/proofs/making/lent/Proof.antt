@@ -1,59 +1,51 @@
+use mathlib.Core.Logic.{inl, inr}
+use native.Mathlib.Omega.{arith}
 use borrow.Author.Needs.{needs}
+use Rattle.planner.proofs.AnswerLaws.{answer-refused, answer-planned}
+use Rattle.planner.proofs.RowLaws.{short-refused}
 use Rattle.planner.proofs.making.lent.Statement.{statement}
 use Rattle.planner.proofs.making.lent.Tie as tie
-use Rattle.planner.proofs.making.lent.Reads as reads
-use Rattle.planner.proofs.making.lent.Lts as lts
-use Rattle.planner.proofs.making.refused.Reads as refused-reads
-use Rattle.planner.proofs.making.shown.Reads as shown-reads
-use Rattle.planner.proofs.making.write.Reads as write-reads
 
--- src/making.rt:142:9
 refused-requires : tie.Need-refused-requires
 refused-requires c κs = search needs
 
--- src/making.rt:142:9
 returns : tie.Need-returns
-returns c = ?
+returns c = answer-refused 11 0 (λ e. omega arith) (short-refused (c .before .before .before .before .before .pre .begun) _ _ _ (inl (c .before .if1 .taken))) (c .refused .ensures)
 
--- src/making.rt:145:9
 refused-requires-2 : tie.Need-refused-requires-2
 refused-requires-2 c κs = search needs
 
--- src/making.rt:145:9
 returns-2 : tie.Need-returns-2
-returns-2 c = ?
+returns-2 c = answer-refused 11 0 (λ e. omega arith) (short-refused (c .before .before .before .before .before .before .before .pre .begun) _ _ _ (inr (inl (c .before .if2 .taken)))) (c .refused2 .ensures)
 
--- src/making.rt:148:9
 refused-requires-3 : tie.Need-refused-requires-3
 refused-requires-3 c κs = search needs
 
--- src/making.rt:148:9
 returns-3 : tie.Need-returns-3
-returns-3 c = ?
+returns-3 c = answer-refused 11 0 (λ e. omega arith) (short-refused (c .before .before .before .before .before .before .before .before .before .pre .begun) _ _ _ (inr (inr (c .before .if3 .taken)))) (c .refused3 .ensures)
 
--- src/making.rt:150:5
 write-requires : tie.Need-write-requires
 write-requires c κs = search needs
 
--- src/making.rt:151:5
 shown-requires : tie.Need-shown-requires
-shown-requires c κs = ?
+shown-requires c κs = c .before .before .before .before .before .before .before .before .before .before .before .before .before .before .before .before .before .before .pre .begun .retimed .ready .chain .few-queues
 
--- src/making.rt:128:1
 same-length : tie.Need-same-length
 same-length c = search needs
 
--- src/making.rt:128:1
 same-length-2 : tie.Need-same-length-2
 same-length-2 c = search needs
 
--- src/making.rt:128:1
 same-length-3 : tie.Need-same-length-3
 same-length-3 c = search needs
 
--- src/making.rt:128:1
 returns-4 : tie.Need-returns-4
-returns-4 c = ?
+returns-4 c =
+    let w = c .before .before .before .before .before .before .before in
+    let third = w .before .before .before .before in
+    let second = third .before .before in
+    let first = second .before .before in
+    answer-planned (first .before .before .before .before .pre) (w .write .ensures) (record { start-room = first .if1 .left; round-room = second .if2 .left; times-room = third .if3 .left }) (c .shown .ensures)
 
 pub lent-spec : {M : Type 1} → statement M
 lent-spec =

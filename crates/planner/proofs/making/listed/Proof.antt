@@ -1,58 +1,60 @@
+use native.Mathlib.Omega.{arith}
+use borrow.Author.Tests.{not-true, not-false}
 use borrow.Author.Needs.{needs}
+use Rattle.planner.specs.Making.{Begun}
+use Rattle.planner.proofs.AnswerLaws.{answer-refused, answer-passed}
+use Rattle.planner.proofs.RowLaws.{lists-passed, lists-stuck}
+use Rattle.planner.proofs.WorkLaws.{small, back-small, firing-small}
 use Rattle.planner.proofs.making.listed.Statement.{statement}
 use Rattle.planner.proofs.making.listed.Tie as tie
-use Rattle.planner.proofs.making.listed.Reads as reads
-use Rattle.planner.proofs.making.listed.Lts as lts
-use Rattle.planner.proofs.making.completes.Reads as completes-reads
-use Rattle.planner.proofs.making.lent.Reads as lent-reads
-use Rattle.planner.proofs.making.refused.Reads as refused-reads
-use Rattle.retimed.proofs.add.Reads as add-reads
-use Rattle.retimed.proofs.back_of.Reads as back-of-reads
-use Rattle.retimed.proofs.start_firings.Reads as start-firings-reads
 
--- src/making.rt:200:9
+begun : (c : tie.After-add) → Begun (c .before .before .before .before .before .before .before .before .before .before .before .before .before .args .checked) (c .before .before .before .before .before .before .before .before .before .before .before .before .before .args .found) (c .before .before .before .before .before .back-of .result) (c .before .before .start-firings .result) (c .add .result)
+begun c = record { retimed = c .before .before .before .before .before .before .before .before .before .before .before .before .before .pre; backs = c .before .before .before .before .before .back-of .ensures; fires = c .before .before .start-firings .ensures; adds = c .add .ensures }
+
 back-of-requires : tie.Need-back-of-requires
-back-of-requires c κs = ?
+back-of-requires c κs = small (c .before .before .before .before .before .before .before .pre)
 
--- src/making.rt:201:19
 start-firings-requires : tie.Need-start-firings-requires
-start-firings-requires c κs = ?
+start-firings-requires c κs = let k = c .before .before in let p = k .before .before .before .before .before .before .before .before .pre in (small p, (k .back-of .ensures .covers, back-small p (k .back-of .ensures)))
 
--- src/making.rt:202:9
 add-requires : tie.Need-add-requires
-add-requires c κs = ?
+add-requires c κs =
+    let s = c .before in
+    let k = s .before .before .before in
+    let p = k .before .before .before .before .before .before .before .before .pre in
+    (p .ready .chain .few, λ v h. firing-small p (k .back-of .ensures) (s .start-firings .ensures) v)
 
--- src/making.rt:203:9
 completes-requires : tie.Need-completes-requires
 completes-requires c κs = search needs
 
--- src/making.rt:204:9
 refused-requires : tie.Need-refused-requires
 refused-requires c κs = search needs
 
--- src/making.rt:204:9
 returns : tie.Need-returns
-returns c = ?
+returns c =
+    let l = c .before .before in
+    answer-refused 10 0 (λ e. omega arith) (lists-stuck (begun (l .before)) (l .completes .ensures .never (not-true _ (c .before .if1 .taken)))) (c .refused .ensures)
 
--- src/making.rt:206:5
 lent-requires : tie.Need-lent-requires
-lent-requires c κs = ?
+lent-requires c κs =
+    let e = c .before .before .before in
+    let l = e .before in
+    let fires = not-false _ (e .if1 .left) in
+    record { begun = begun (l .before); start = l .completes .ensures .start fires; round = l .completes .ensures .round fires }
 
--- src/making.rt:187:1
 same-length : tie.Need-same-length
 same-length c = search needs
 
--- src/making.rt:187:1
 same-length-2 : tie.Need-same-length-2
 same-length-2 c = search needs
 
--- src/making.rt:187:1
 same-length-3 : tie.Need-same-length-3
 same-length-3 c = search needs
 
--- src/making.rt:187:1
 returns-2 : tie.Need-returns-2
-returns-2 c = ?
+returns-2 c =
+    let l = c .before .before .before .before .before .before in
+    answer-passed (lists-passed (begun (l .before .before .before .before .before .before) .retimed)) (l .lent .ensures)
 
 pub listed-spec : {M : Type 1} → statement M
 listed-spec =

@@ -1,43 +1,44 @@
+use native.Mathlib.Omega.{arith}
+use borrow.Author.Tests.{not-true, not-false}
 use borrow.Author.Needs.{needs}
+use Rattle.checks.proofs.CheckLaws.{ready-counted, ready-ordered, ready-given}
+use Rattle.planner.proofs.AnswerLaws.{answer-refused, answer-passed}
+use Rattle.planner.proofs.RowLaws.{none-serve, serve-passed}
 use Rattle.planner.proofs.making.searched.Statement.{statement}
 use Rattle.planner.proofs.making.searched.Tie as tie
-use Rattle.planner.proofs.making.searched.Reads as reads
-use Rattle.planner.proofs.making.searched.Lts as lts
-use Rattle.planner.proofs.making.listed.Reads as listed-reads
-use Rattle.planner.proofs.making.refused.Reads as refused-reads
-use Rattle.search.proofs.search.Reads as search-reads
 
--- src/making.rt:224:9
 search-requires : tie.Need-search-requires
-search-requires c κs = ?
+search-requires c κs = let p = c .before .before .before .before .before .before .before .before .before .before .before .before .before .before .before .before .before .before .before .before .before .before .before .pre in (ready-counted p, (p .threads, (ready-given p, ready-ordered p)))
 
--- src/making.rt:241:9
 refused-requires : tie.Need-refused-requires
 refused-requires c κs = search needs
 
--- src/making.rt:241:9
 returns : tie.Need-returns
-returns c = ?
+returns c =
+    let s = c .before .before .before in
+    answer-refused 9 0 (λ e. omega arith) (none-serve (s .before .before .before .before .before .before .before .before .before .before .before .before .before .before .before .before .before .before .before .before .before .before .before .before .pre) (s .search .ensures .none (not-true _ (c .before .if1 .taken)))) (c .refused .ensures)
 
--- src/making.rt:243:5
 listed-requires : tie.Need-listed-requires
-listed-requires c κs = ?
+listed-requires c κs =
+    let e = c .before .before .before in
+    let s = e .before .before in
+    record { ready = s .before .before .before .before .before .before .before .before .before .before .before .before .before .before .before .before .before .before .before .before .before .before .before .before .pre; retimes = s .search .ensures .found (not-false _ (e .if1 .left)) }
 
--- src/making.rt:210:1
 same-length : tie.Need-same-length
 same-length c = search needs
 
--- src/making.rt:210:1
 same-length-2 : tie.Need-same-length-2
 same-length-2 c = search needs
 
--- src/making.rt:210:1
 same-length-3 : tie.Need-same-length-3
 same-length-3 c = search needs
 
--- src/making.rt:210:1
 returns-2 : tie.Need-returns-2
-returns-2 c = ?
+returns-2 c =
+    let l = c .before .before .before .before .before .before in
+    let e = l .before .before .before .before in
+    let s = e .before .before in
+    answer-passed (serve-passed (record { ready = s .before .before .before .before .before .before .before .before .before .before .before .before .before .before .before .before .before .before .before .before .before .before .before .before .pre; retimes = s .search .ensures .found (not-false _ (e .if1 .left)) })) (l .listed .ensures)
 
 pub searched-spec : {M : Type 1} → statement M
 searched-spec =

@@ -1,36 +1,26 @@
 use borrow.Author.Needs.{needs}
+use Rattle.planner.proofs.WorkLaws.{round-fireable, start-fireable}
 use Rattle.planner.proofs.making.write.Statement.{statement}
 use Rattle.planner.proofs.making.write.Tie as tie
-use Rattle.planner.proofs.making.write.Reads as reads
-use Rattle.planner.proofs.making.write.Lts as lts
-use Rattle.planner.proofs.listing.write_list.Reads as write-list-reads
-use Rattle.planner.proofs.listing.write_times.Reads as write-times-reads
 
--- src/making.rt:65:5
 write-list-requires : tie.Need-write-list-requires
-write-list-requires c κs = ?
+write-list-requires c κs = let p = c .before .before .before .before .before .before .before .before .before .before .before .before .before .before .before .before .before .before .before .before .before .before .pre in (start-fireable (p .0 .begun), (p .1 .start-room, p .0 .start))
 
--- src/making.rt:79:5
 write-list-requires-2 : tie.Need-write-list-requires-2
-write-list-requires-2 c κs = ?
+write-list-requires-2 c κs = let p = c .before .before .before .before .before .before .before .before .before .before .before .before .before .before .before .before .before .before .before .before .before .before .before .before .before .before .before .before .before .before .before .before .before .before .pre in (round-fireable (p .0 .begun .retimed), (p .1 .round-room, p .0 .round))
 
--- src/making.rt:93:5
 write-times-requires : tie.Need-write-times-requires
-write-times-requires c κs = ?
+write-times-requires c κs = let p = c .before .before .before .before .before .before .before .before .before .before .before .before .before .before .before .before .before .before .before .before .before .before .before .before .before .before .before .before .before .before .before .before .before .before .before .before .before .before .before .pre in (p .0 .begun .retimed .ready .few, p .1 .times-room)
 
--- src/making.rt:39:1
 same-length : tie.Need-same-length
 same-length c = search needs
 
--- src/making.rt:39:1
 same-length-2 : tie.Need-same-length-2
 same-length-2 c = search needs
 
--- src/making.rt:39:1
 same-length-3 : tie.Need-same-length-3
 same-length-3 c = search needs
 
--- src/making.rt:39:1
 returns : tie.Need-returns
 returns c = search needs
 
