@@ -12,15 +12,17 @@ use Rattle.lists.specs.Front.{at}
 use Rattle.lists.specs.Test.{Tells}
 use Rattle.lists.proofs.Order.{lt-or-ge}
 use Rattle.lists.proofs.StoreLaws.{at-zeros}
-use Rattle.refusals.specs.First.{Row, First}
+use Rattle.refusals.specs.First.{Row, First, free}
 use Rattle.refusals.specs.Table.{apart, counts-fail, stuck}
-use Rattle.refusals.proofs.FirstLaws.{here-now, passed, none, extend, append, all-passed}
+use Rattle.refusals.proofs.FirstLaws.{here-now, passed, none, extend, append, all-passed, front-passed}
+use Rattle.dataflow.specs.Net.{Sound}
 use Rattle.dataflow.specs.Counts.{Counts}
 use Rattle.dataflow.specs.Lists.{RoundList}
 use Rattle.dataflow.specs.Refusals.{apartRow, countsRow}
 use Rattle.dataflow.specs.Stuck.{Stuck}
 use Rattle.dataflow.proofs.CountLaws.{counts-once}
 use Rattle.dataflow.proofs.ListLaws.{list-run, list-fired, round-length}
+use Rattle.dataflow.proofs.SheetLaws.{sheet-sound}
 use Rattle.dataflow.proofs.StuckLaws.{stuck-cannot-fire, round-of-list}
 use Rattle.sheet.specs.declared.Sheet.{Sheet}
 use Rattle.sheet.specs.declared.Reading.{Reading}
@@ -39,6 +41,7 @@ use Rattle.counts.specs.Smallest.{Smallest}
 use Rattle.counts.proofs.RowLaws.{joined-passes, apart-applies, are-counts, counts-pass, counts-fail-applies}
 use Rattle.checks.specs.declared.Checked.{Checked}
 use Rattle.checks.specs.Check.{columnsOf, netFor, delaysFor, CountsOf, stuckRow, chainRows, checkRows, Ready, refusedBy, Judges}
+use Rattle.checks.proofs.SheetLaws.{read-chain}
 
 -- a refusal is all that is said
 pub judged-refused : {rows : List Row} {f : Sheet} (number place : ℕ) {r : Checked} → (number ≡ 0 → ⊥) → First rows number place → r ≡ refusedBy number place → Judges rows f r
@@ -155,3 +158,21 @@ module _ {f : Sheet} {r : Checked} (h : Ready f r) where
         run = list-run (netFor f (r .q)) (at (r .q)) l;
         whole = list-fired (netFor f (r .q)) (at (r .q)) l;
       }
+
+-- a sheet that no row of reading refuses is within limits, and with its counts it is sound
+pub rows-sound : (s : List ℕ) (more : List Row) {number place : ℕ} → First (readRows s ++ more) number place → number ≡ 0 → (q : List ℕ) → CountsOf (sheetOf s) q → Sound (netFor (sheetOf s) q)
+rows-sound s more v e q c =
+    let r : Reading = record { number = 0; place = 0; sheet = sheetOf s } in
+    let R : Reads s r = record { verdict = free (front-passed (readRows s) more (all-passed v e)); accepted = λ z. refl; refused = λ z. absurd (z refl) } in
+    let chain = read-chain s r R refl in
+    sheet-sound (columnsOf (sheetOf s)) q (record {
+      beyond = c .beyond;
+      positive = c .counts .balances .positive;
+      queues = λ k h. record {
+        makes = chain .makes k h;
+        takes = chain .takes k h;
+        leaves = chain .leaves k h;
+        enters = chain .enters k h;
+        balanced = c .counts .balances .balanced (k, h);
+      };
+    })

@@ -3,3 +3,4 @@ pub mod WorkLaws
 pub mod RowLaws
 pub mod HoldLaws
 pub mod AnswerLaws
+pub mod Unique

@@ -75,6 +75,12 @@ pub append : (rows : List Row) {more : List Row} {number place : ℕ} → ((j : 
 append [] p f = f
 append (r ∷ rows) p f = passed (p 0 (omega arith)) (append rows (λ j h. p (suc j) (omega arith)) f)
 
+-- and where every row of a longer list applies nowhere, so does each of its front
+pub front-passed : (rows more : List Row) → ((j : ℕ) → j < length (rows ++ more) → Passed (nth (rows ++ more) j)) → (j : ℕ) → j < length rows → Passed (nth rows j)
+front-passed [] more p j b = absurd (not-suc-le-zero b)
+front-passed (r ∷ rows) more p zero b = p 0 (omega arith)
+front-passed (r ∷ rows) more p (suc j) b = front-passed rows more (λ i h. p (suc i) (omega arith)) j (omega arith)
+
 -- no second number and place
 pub unique : {rows : List Row} {k p k′ p′ : ℕ} → First rows k p → First rows k′ p′ → (k ≡ k′) × (p ≡ p′)
 unique {rows} (given {place = p} i b f l) (given {place = p′} i′ b′ f′ l′) =
