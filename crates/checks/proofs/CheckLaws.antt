@@ -28,7 +28,7 @@ use Rattle.sheet.specs.declared.Sheet.{Sheet}
 use Rattle.sheet.specs.declared.Reading.{Reading}
 use Rattle.sheet.specs.Format.{sheetOf}
 use Rattle.sheet.specs.Read.{readRows, Reads}
-use Rattle.chain.specs.Chain.{DelaysGiven, CountedChain, delaysOf}
+use Rattle.chain.specs.Chain.{Chain, DelaysGiven, CountedChain, delaysOf}
 use Rattle.chain.proofs.ChainLaws.{sound}
 use Rattle.firing.specs.Into.{Threads}
 use Rattle.firing.specs.Fire.{Fires}
@@ -159,12 +159,17 @@ module _ {f : Sheet} {r : Checked} (h : Ready f r) where
         whole = list-fired (netFor f (r .q)) (at (r .q)) l;
       }
 
--- a sheet that no row of reading refuses is within limits, and with its counts it is sound
+-- a sheet that no row of reading refuses is within limits
+pub rows-chain : (s : List ℕ) (more : List Row) {number place : ℕ} → First (readRows s ++ more) number place → number ≡ 0
+    → Chain (sheetOf s .n) (sheetOf s .m) (sheetOf s .source) (sheetOf s .sink) (sheetOf s .produced) (sheetOf s .consumed)
+rows-chain s more v e =
+    let r : Reading = record { number = 0; place = 0; sheet = sheetOf s } in
+    read-chain s r (record { verdict = free (front-passed (readRows s) more (all-passed v e)); accepted = λ z. refl; refused = λ z. absurd (z refl) }) refl
+
+-- and with its counts it is sound
 pub rows-sound : (s : List ℕ) (more : List Row) {number place : ℕ} → First (readRows s ++ more) number place → number ≡ 0 → (q : List ℕ) → CountsOf (sheetOf s) q → Sound (netFor (sheetOf s) q)
 rows-sound s more v e q c =
-    let r : Reading = record { number = 0; place = 0; sheet = sheetOf s } in
-    let R : Reads s r = record { verdict = free (front-passed (readRows s) more (all-passed v e)); accepted = λ z. refl; refused = λ z. absurd (z refl) } in
-    let chain = read-chain s r R refl in
+    let chain = rows-chain s more v e in
     sheet-sound (columnsOf (sheetOf s)) q (record {
       beyond = c .beyond;
       positive = c .counts .balances .positive;

@@ -4,3 +4,4 @@ pub mod RowLaws
 pub mod HoldLaws
 pub mod AnswerLaws
 pub mod Unique
+pub mod FitLaws

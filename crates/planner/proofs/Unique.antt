@@ -39,7 +39,7 @@ same-list : (n : ℕ) (a b : List ℕ) → length a ≡ length b → ((v : ℕ) 
 same-list n a b l e za zb = ext-getD 0 a b l (λ v h. ⊎-elim (λ x. e v x) (λ x. za v x ∙ sym (zb v x)) (lt-or-ge v n))
 
 module _ (f : Sheet) (start round times : List ℕ) (r r′ : Planning) (z : Sized r) (z′ : Sized r′) (start′ round′ times′ start″ round″ times″ : List ℕ)
-  (p : Planned f start round times start′ round′ times′ r) (p′ : Planned f start round times start″ round″ times″ r′) (W : Sound (netFor f (r .q))) where
+    (p : Planned f start round times start′ round′ times′ r) (p′ : Planned f start round times start″ round″ times″ r′) (W : Sound (netFor f (r .q))) where
   q : r .q ≡ r′ .q
   q = counts-of-once f (r .q) (r′ .q) (p .counts) (p′ .counts)
 

@@ -1,3 +1,4 @@
 pub mod Lists
 pub mod Making
 pub mod Plan
+pub mod Fits

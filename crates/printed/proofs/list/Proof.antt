@@ -1,0 +1,63 @@
+use Prim.Native.Nat.{_≤_, _-_}
+use mathlib.Core.Path.{_≡_}
+use lib.ListN.{length}
+use borrow.Author.Needs.{needs}
+use Rattle.printed.proofs.list.Statement.{statement}
+use Rattle.printed.proofs.list.Tie as tie
+
+abbrev Inv-loop : tie.InvT-loop
+Inv-loop word entries k₀ t4 k-end k = (k ≤ k-end) × (k-end ≡ length entries)
+
+abbrev μ-loop : tie.MeasureT-loop
+μ-loop word entries k₀ t4 k-end k = k-end - k
+
+text-requires : tie.Need-text-requires Inv-loop μ-loop
+text-requires c κs = search needs
+
+loop-holds : tie.Need-loop-holds Inv-loop μ-loop
+loop-holds c = search needs
+
+mul-firing : tie.Need-mul-firing Inv-loop μ-loop
+mul-firing c = search needs
+
+shared-slice-read-firing : tie.Need-shared-slice-read-firing Inv-loop μ-loop
+shared-slice-read-firing c = search needs
+
+firing-requires : tie.Need-firing-requires Inv-loop μ-loop
+firing-requires c κs = search needs
+
+add-k : tie.Need-add-k Inv-loop μ-loop
+add-k c = search needs
+
+loop-less : tie.Need-loop-less Inv-loop μ-loop
+loop-less c = search needs
+
+loop-again : tie.Need-loop-again Inv-loop μ-loop
+loop-again c = search needs
+
+slice-aggregate-text : tie.Need-slice-aggregate-text Inv-loop μ-loop
+slice-aggregate-text c = search needs
+
+text-requires-2 : tie.Need-text-requires-2 Inv-loop μ-loop
+text-requires-2 c κs = search needs
+
+returns : tie.Need-returns Inv-loop μ-loop
+returns c = search needs
+
+pub list-spec : {M : Type 1} → statement M
+list-spec =
+    tie.close
+    (tie.spec
+    Inv-loop
+    μ-loop
+    text-requires
+    loop-holds
+    mul-firing
+    shared-slice-read-firing
+    firing-requires
+    add-k
+    loop-less
+    loop-again
+    slice-aggregate-text
+    text-requires-2
+    returns)

@@ -1,0 +1,73 @@
+use Prim.Native.Nat.{_≤_, _-_}
+use borrow.Author.Needs.{needs}
+use Rattle.printed.proofs.stations.Statement.{statement}
+use Rattle.printed.proofs.stations.Tie as tie
+
+abbrev Inv-loop : tie.InvT-loop
+Inv-loop n tag q retiming start v₀ v = v ≤ n
+
+abbrev μ-loop : tie.MeasureT-loop
+μ-loop n tag q retiming start v₀ v = n - v
+
+loop-holds : tie.Need-loop-holds Inv-loop μ-loop
+loop-holds c = search needs
+
+mul-station : tie.Need-mul-station Inv-loop μ-loop
+mul-station c = search needs
+
+element-copy-out-station : tie.Need-element-copy-out-station Inv-loop μ-loop
+element-copy-out-station c = search needs
+
+mul-station-2 : tie.Need-mul-station-2 Inv-loop μ-loop
+mul-station-2 c = search needs
+
+element-copy-out-station-2 : tie.Need-element-copy-out-station-2 Inv-loop μ-loop
+element-copy-out-station-2 c = search needs
+
+mul-station-3 : tie.Need-mul-station-3 Inv-loop μ-loop
+mul-station-3 c = search needs
+
+element-copy-out-station-3 : tie.Need-element-copy-out-station-3 Inv-loop μ-loop
+element-copy-out-station-3 c = search needs
+
+mul-station-4 : tie.Need-mul-station-4 Inv-loop μ-loop
+mul-station-4 c = search needs
+
+element-copy-out-station-4 : tie.Need-element-copy-out-station-4 Inv-loop μ-loop
+element-copy-out-station-4 c = search needs
+
+station-requires : tie.Need-station-requires Inv-loop μ-loop
+station-requires c κs = search needs
+
+add-v : tie.Need-add-v Inv-loop μ-loop
+add-v c = search needs
+
+loop-less : tie.Need-loop-less Inv-loop μ-loop
+loop-less c = search needs
+
+loop-again : tie.Need-loop-again Inv-loop μ-loop
+loop-again c = search needs
+
+returns : tie.Need-returns Inv-loop μ-loop
+returns c = search needs
+
+pub stations-spec : {M : Type 1} → statement M
+stations-spec =
+    tie.close
+    (tie.spec
+    Inv-loop
+    μ-loop
+    loop-holds
+    mul-station
+    element-copy-out-station
+    mul-station-2
+    element-copy-out-station-2
+    mul-station-3
+    element-copy-out-station-3
+    mul-station-4
+    element-copy-out-station-4
+    station-requires
+    add-v
+    loop-less
+    loop-again
+    returns)
