@@ -1,0 +1,3 @@
+pub mod HandedLaws
+pub mod NextLaws
+pub mod Unique
