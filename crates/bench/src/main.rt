@@ -1,4 +1,6 @@
 // Questions on standard input, answers on standard output.
+mod dispatching;
+mod lending;
 mod planning;
 mod reading;
 mod writing;
@@ -8,13 +10,19 @@ ghost use lib.ListN.{length};
 ghost use Rattle.bench.specs.Least.{Least};
 use libc::STDIN_FILENO;
 
+pub(crate) fn malformed() {
+    print::text(b"malformed\n");
+}
+
 // The answer to a question of a kind, or that it can't be taken apart.
 fn answer(kind: u8, body: &[u8]) {
     match kind {
         1 => planning::answer(body),
+        2 => lending::answer(body),
         3 => reading::answer(body),
         4 => writing::answer(body),
-        _ => print::text(b"malformed\n"),
+        8 => dispatching::answer(body),
+        _ => malformed(),
     }
 }
 
@@ -45,12 +53,12 @@ fn answer_body(kind: u8, n: usize, space: &mut [u8]) -> bool
     requires { ⌜ 70000 ≤ length (now space) ⌝ }
 {
     if 70000 < n {
-        print::text(b"malformed\n");
+        malformed();
         return skip(n, space);
     }
     let got = io::read_full(STDIN_FILENO, &mut space[..n]);
     if got < n {
-        print::text(b"malformed\n");
+        malformed();
         return false;
     }
     answer(kind, &space[..n]);
@@ -69,7 +77,7 @@ fn answer_next(index: u64, space: &mut [u8]) -> bool
     print::number(b"question ", index);
     print::text(b"\n");
     if got < 5 {
-        print::text(b"malformed\n");
+        malformed();
         return false;
     }
     answer_body(head[0], little::u32_at(&head, 1) as usize, space)

@@ -4,6 +4,7 @@ ghost use Prim.Native.Nat.{_+_, _*_, _≤_};
 ghost use lib.ListN.{length};
 ghost use Rattle.sheet.specs.Limits.{Columns};
 ghost use Rattle.little.specs.Little.{Apart};
+use crate::malformed;
 
 fn buffer(out: &[u8]) {
     print::text(b"buffer");
@@ -124,7 +125,7 @@ fn queues_of(body: &[u8], a: usize) -> usize
 
 pub(crate) fn answer(body: &[u8]) {
     if body.len() < 18 {
-        print::text(b"malformed\n");
+        malformed();
         return;
     }
     let lent = little::u32_at(body, 10) as usize;
@@ -139,5 +140,5 @@ pub(crate) fn answer(body: &[u8]) {
             }
         }
     }
-    print::text(b"malformed\n");
+    malformed();
 }

@@ -4,11 +4,8 @@ use borrow.Author.Needs.{needs}
 use Rattle.bench.proofs.answer_body.Statement.{statement}
 use Rattle.bench.proofs.answer_body.Tie as tie
 
-slice-aggregate-text : tie.Need-slice-aggregate-text
-slice-aggregate-text c = search needs
-
-text-requires : tie.Need-text-requires
-text-requires c κs = search needs
+malformed-requires : tie.Need-malformed-requires
+malformed-requires c κs = search needs
 
 skip-requires : tie.Need-skip-requires
 skip-requires c κs = search needs
@@ -28,11 +25,8 @@ slice-aggregate-read-full c = simp length-take (omega arith)
 read-full-requires : tie.Need-read-full-requires
 read-full-requires c κs = search needs
 
-slice-aggregate-text-2 : tie.Need-slice-aggregate-text-2
-slice-aggregate-text-2 c = search needs
-
-text-requires-2 : tie.Need-text-requires-2
-text-requires-2 c κs = search needs
+malformed-requires-2 : tie.Need-malformed-requires-2
+malformed-requires-2 c κs = search needs
 
 same-length-2 : tie.Need-same-length-2
 same-length-2 c = search needs
@@ -59,16 +53,14 @@ pub answer-body-spec : {M : Type 1} → statement M
 answer-body-spec =
     tie.close
     (tie.spec
-    slice-aggregate-text
-    text-requires
+    malformed-requires
     skip-requires
     same-length
     returns
     slice-relend-prefix-read-full
     slice-aggregate-read-full
     read-full-requires
-    slice-aggregate-text-2
-    text-requires-2
+    malformed-requires-2
     same-length-2
     returns-2
     slice-reshare-prefix-answer

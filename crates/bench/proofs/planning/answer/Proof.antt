@@ -1,25 +1,45 @@
 use borrow.Author.Needs.{needs}
-use Rattle.bench.proofs.ReadyLaws.{read-chain, read-delays}
+use Rattle.planner.proofs.FitLaws.{fits}
 use Rattle.bench.proofs.planning.answer.Statement.{statement}
 use Rattle.bench.proofs.planning.answer.Tie as tie
 
-read-requires : tie.Need-read-requires
-read-requires c κs = search needs
+slice-aggregate-plan : tie.Need-slice-aggregate-plan
+slice-aggregate-plan c = search needs
 
-refusal-requires : tie.Need-refusal-requires
-refusal-requires c κs = search needs
+slice-aggregate-plan-2 : tie.Need-slice-aggregate-plan-2
+slice-aggregate-plan-2 c = search needs
+
+slice-aggregate-plan-3 : tie.Need-slice-aggregate-plan-3
+slice-aggregate-plan-3 c = search needs
+
+plan-requires : tie.Need-plan-requires
+plan-requires c κs = search needs
+
+slice-aggregate-plan-4 : tie.Need-slice-aggregate-plan-4
+slice-aggregate-plan-4 c = search needs
+
+slice-aggregate-plan-5 : tie.Need-slice-aggregate-plan-5
+slice-aggregate-plan-5 c = search needs
+
+slice-aggregate-plan-6 : tie.Need-slice-aggregate-plan-6
+slice-aggregate-plan-6 c = search needs
+
+plan-requires-2 : tie.Need-plan-requires-2
+plan-requires-2 c κs = fits _ _ _ _ _ _ _ _ (c .before .before .before .before .before .before .plan .ensures)
 
 returns : tie.Need-returns
 returns c = search needs
 
-plan-requires : tie.Need-plan-requires
-plan-requires c κs =
-    let read = c .before .before .before .before .before .before .before .before .before .before .before .before .before .before .before .read .ensures in
-    let accepted = c .before .before .before .before .before .before .before .before .before .before .before .before .before .if1 .left in
-    (read-chain _ _ read accepted, read-delays _ _ read accepted)
-
-returns-2 : tie.Need-returns-2
-returns-2 c = search needs
-
 pub answer-spec : {M : Type 1} → statement M
-answer-spec = tie.close (tie.spec read-requires refusal-requires returns plan-requires returns-2)
+answer-spec =
+    tie.close
+    (tie.spec
+    slice-aggregate-plan
+    slice-aggregate-plan-2
+    slice-aggregate-plan-3
+    plan-requires
+    slice-aggregate-plan-4
+    slice-aggregate-plan-5
+    slice-aggregate-plan-6
+    plan-requires-2
+    returns)

@@ -2,11 +2,8 @@ use borrow.Author.Needs.{needs}
 use Rattle.bench.proofs.writing.answer.Statement.{statement}
 use Rattle.bench.proofs.writing.answer.Tie as tie
 
-slice-aggregate-text : tie.Need-slice-aggregate-text
-slice-aggregate-text c = search needs
-
-text-requires : tie.Need-text-requires
-text-requires c κs = search needs
+malformed-requires : tie.Need-malformed-requires
+malformed-requires c κs = search needs
 
 returns : tie.Need-returns
 returns c = search needs
@@ -35,11 +32,8 @@ show-requires c κs = (search needs, (search needs, (search needs, c .before .be
 returns-2 : tie.Need-returns-2
 returns-2 c = search needs
 
-slice-aggregate-text-2 : tie.Need-slice-aggregate-text-2
-slice-aggregate-text-2 c = search needs
-
-text-requires-2 : tie.Need-text-requires-2
-text-requires-2 c κs = search needs
+malformed-requires-2 : tie.Need-malformed-requires-2
+malformed-requires-2 c κs = search needs
 
 returns-3 : tie.Need-returns-3
 returns-3 c = search needs
@@ -48,8 +42,7 @@ pub answer-spec : {M : Type 1} → statement M
 answer-spec =
     tie.close
     (tie.spec
-    slice-aggregate-text
-    text-requires
+    malformed-requires
     returns
     u32-at-requires
     cast-lent
@@ -59,6 +52,5 @@ answer-spec =
     slice-aggregate-show
     show-requires
     returns-2
-    slice-aggregate-text-2
-    text-requires-2
+    malformed-requires-2
     returns-3)
