@@ -3,7 +3,10 @@
 use crate::draft::{Draft, CONSUMED, DELAY};
 use crate::random::Random;
 use crate::shapes::{chained, joined};
-use crate::{ask_read, balanced, bench_rows, damage, edges, islands, loops, paths, rates, Stream};
+use crate::{
+    ask_read, balanced, bench_rows, damage, edges, islands, loops, paths, rates, slow, tight,
+    undone, Stream,
+};
 use std::collections::HashSet;
 
 /// Sheets that several groups hold are asked once.
@@ -20,6 +23,8 @@ pub fn systematic(stream: &mut Stream) {
         rates::all(),
         loops::all(),
         paths::all(),
+        tight::all(),
+        slow::all(),
     ];
     sheets.extend(groups.iter().flatten().map(Draft::sheet));
     let mut asked = HashSet::new();
@@ -74,10 +79,12 @@ fn several_refusals() -> Vec<Draft> {
 }
 
 pub fn random_body(random: &mut Random) -> Vec<u8> {
-    let mut draft = match random.below(12) {
-        0 => return ask_read::random_body(random),
-        1 => random_chain(random),
-        _ => balanced::random(random),
+    let mut draft = match random.below(24) {
+        0 | 1 => return ask_read::random_body(random),
+        2 | 3 => random_chain(random),
+        4..=13 => balanced::random(random),
+        14 => slow::random(random),
+        _ => undone::random(random),
     };
     if random.one_in(12) {
         spoil(&mut draft, random);

@@ -10,13 +10,11 @@ const LARGEST_DELAY: usize = 4_095;
 
 pub fn random(random: &mut Random) -> Draft {
     let counts = random_counts(random);
-    let n = counts.len();
-    let mut queues = tree(&counts, random);
-    let more = if n > 8 { random.below(65 - queues.len()) } else { random.below(n + 4) };
-    for _ in 0..more {
-        queues.extend(queue(random.below(n), random.below(n), &counts, random));
-    }
-    let times: Vec<u16> = (0..n).map(|_| random_time(random)).collect();
+    let queues = random_ends(&counts, random)
+        .into_iter()
+        .filter_map(|(source, sink)| queue(source, sink, &counts, random))
+        .collect();
+    let times: Vec<u16> = counts.iter().map(|_| random_time(random)).collect();
     let target = random_target(&times, random);
     let mut draft = Draft { target, ..timed(times, queues) };
     renumber(&mut draft, random);
@@ -25,7 +23,7 @@ pub fn random(random: &mut Random) -> Draft {
 
 /// Mostly few and small counts, now and then a sum close to 256, many stations, or counts whose
 /// ratios are plain although they are large.
-fn random_counts(random: &mut Random) -> Vec<usize> {
+pub fn random_counts(random: &mut Random) -> Vec<usize> {
     match random.below(24) {
         0 | 1 => close_to_256(random),
         2 => (0..9 + random.below(24)).map(|_| 1 + random.below(8)).collect(),
@@ -47,34 +45,46 @@ fn close_to_256(random: &mut Random) -> Vec<usize> {
     counts
 }
 
-/// A queue between each station and an earlier one. A station whose count fits none before it
-/// stays alone.
-fn tree(counts: &[usize], random: &mut Random) -> Vec<[u16; 5]> {
-    let mut queues = Vec::new();
-    for station in 1..counts.len() {
-        let first = random.below(station);
-        let mut others = (0..station).map(|i| (first + i) % station);
-        queues.extend(others.find_map(|other| {
-            if random.one_in(4) {
-                queue(station, other, counts, random)
-            } else {
-                queue(other, station, counts, random)
-            }
-        }));
-    }
-    queues
+/// Sources and sinks: a queue between each station and an earlier one, then some between any two.
+pub fn random_ends(counts: &[usize], random: &mut Random) -> Vec<(usize, usize)> {
+    let n = counts.len();
+    let mut ends: Vec<(usize, usize)> =
+        (1..n).filter_map(|station| tree_ends(station, counts, random)).collect();
+    let most = if n > 8 && random.one_in(2) { 64 - ends.len() } else { n + 3 };
+    ends.extend((0..random.below(most + 1)).map(|_| (random.below(n), random.below(n))));
+    ends
+}
+
+/// A station whose count fits none before it stays alone.
+fn tree_ends(station: usize, counts: &[usize], random: &mut Random) -> Option<(usize, usize)> {
+    let first = if random.one_in(2) { station - 1 } else { random.below(station) };
+    let mut others = (0..station).map(|i| (first + i) % station);
+    let other = others.find(|&other| smallest_rates(station, other, counts).is_some())?;
+    Some(if random.one_in(4) { (station, other) } else { (other, station) })
+}
+
+/// The smallest rates that the counts balance, if they are small enough.
+fn smallest_rates(source: usize, sink: usize, counts: &[usize]) -> Option<(usize, usize)> {
+    let common = common_divisor(counts[source], counts[sink]);
+    let (produced, consumed) = (counts[sink] / common, counts[source] / common);
+    (produced.max(consumed) <= LARGEST_RATE).then_some((produced, consumed))
+}
+
+pub fn random_rates(
+    source: usize,
+    sink: usize,
+    counts: &[usize],
+    random: &mut Random,
+) -> Option<(usize, usize)> {
+    let (produced, consumed) = smallest_rates(source, sink, counts)?;
+    let most = LARGEST_RATE / produced.max(consumed);
+    let times = if random.one_in(2) { 1 } else { 1 + random.below(most.min(5)) };
+    Some((times * produced, times * consumed))
 }
 
 /// A queue that the counts balance, if its rates can be small enough.
 fn queue(source: usize, sink: usize, counts: &[usize], random: &mut Random) -> Option<[u16; 5]> {
-    let common = common_divisor(counts[source], counts[sink]);
-    let (produced, consumed) = (counts[sink] / common, counts[source] / common);
-    let most = LARGEST_RATE / produced.max(consumed);
-    if most == 0 {
-        return None;
-    }
-    let times = if random.one_in(2) { 1 } else { 1 + random.below(most.min(5)) };
-    let (produced, consumed) = (times * produced, times * consumed);
+    let (produced, consumed) = random_rates(source, sink, counts, random)?;
     let delay = if source < sink {
         forward_delay(consumed, consumed * counts[sink], random)
     } else {
@@ -120,19 +130,19 @@ fn random_time(random: &mut Random) -> u16 {
     }
 }
 
-/// Mostly between the largest time and the sum of times.
+/// Mostly the largest time and up to half of the sum of times more.
 fn random_target(times: &[u16], random: &mut Random) -> u32 {
     let largest = times.iter().copied().max().unwrap_or(0);
     let sum: u32 = times.iter().map(|&time| u32::from(time)).sum();
     match random.below(12) {
         0 => random.next() as u32,
         1 => random.below(12) as u32,
-        _ => u32::from(largest) + random.below(1 + sum as usize) as u32,
+        _ => u32::from(largest) + random.below(1 + sum as usize / 2) as u32,
     }
 }
 
 /// Gives the stations other numbers and the queues another order.
-fn renumber(draft: &mut Draft, random: &mut Random) {
+pub fn renumber(draft: &mut Draft, random: &mut Random) {
     let numbers: Vec<u16> = shuffled((0..draft.n).collect(), random);
     let before = draft.stations.clone();
     for (station, &number) in before.into_iter().zip(&numbers) {

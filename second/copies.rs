@@ -1,4 +1,5 @@
-//! The copies of the stations and their dependences (Definition 3), written out token by token.
+//! The copies of the stations and their dependences of delay 0 (Definition 3), written out firing
+//! by firing.
 
 use crate::sheet::{Queue, Sheet};
 
@@ -6,60 +7,48 @@ use crate::sheet::{Queue, Sheet};
 pub struct Copies {
     /// The station of each copy.
     pub stations: Vec<usize>,
-    /// For each copy, the copies that depend on it with delay 0, each of them once.
-    pub followers: Vec<Vec<usize>>,
+    /// For each copy, the copies that it needs with delay 0, each of them once.
+    pub needed: Vec<Vec<usize>>,
 }
 
-struct Dependence {
-    maker: usize,
-    taker: usize,
-    delay: usize,
-}
-
-pub fn of(sheet: &Sheet, counts: &[usize]) -> Copies {
+/// The copies of a sheet whose queues have these delays in place of its own.
+pub fn of(sheet: &Sheet, counts: &[usize], delays: &[usize]) -> Copies {
     let stations: Vec<usize> =
         counts.iter().enumerate().flat_map(|(station, &count)| vec![station; count]).collect();
     let total = stations.len();
     let mut seen = vec![false; total * total];
-    let mut followers = vec![Vec::new(); total];
-    for dependence in sheet.queues.iter().flat_map(|queue| dependences(queue, counts)) {
-        let pair = dependence.maker * total + dependence.taker;
-        if dependence.delay == 0 && !seen[pair] {
-            seen[pair] = true;
-            followers[dependence.maker].push(dependence.taker);
+    let mut needed = vec![Vec::new(); total];
+    for (queue, &delay) in sheet.queues.iter().zip(delays) {
+        let first_maker: usize = counts[..usize::from(queue.source)].iter().sum();
+        let first_taker: usize = counts[..usize::from(queue.sink)].iter().sum();
+        for (made_by, taken_by) in pairs_in_one_round(queue, delay, counts) {
+            let (maker, taker) = (first_maker + made_by - 1, first_taker + taken_by - 1);
+            if !seen[maker * total + taker] {
+                seen[maker * total + taker] = true;
+                needed[taker].push(maker);
+            }
         }
     }
-    Copies { stations, followers }
+    Copies { stations, needed }
 }
 
-/// One dependence for each token that the source puts in round 0; every other round has the same.
-fn dependences(queue: &Queue, counts: &[usize]) -> Vec<Dependence> {
-    let (source, sink) = (usize::from(queue.source), usize::from(queue.sink));
-    let mut found = Vec::new();
-    for firing in 1..=counts[source] {
-        let (maker, made_in) = copy_and_round(firing, source, counts);
-        for token in 1..=usize::from(queue.produced) {
-            let taken_by = taker(queue, place(queue, firing, token));
-            let (taker, taken_in) = copy_and_round(taken_by, sink, counts);
-            found.push(Dependence { maker, taker, delay: taken_in - made_in });
+/// Each firing of the source in round 0, with each firing of the sink in round 0 that takes a token
+/// of it. Every other round has the same.
+fn pairs_in_one_round(queue: &Queue, delay: usize, counts: &[usize]) -> Vec<(usize, usize)> {
+    let produced = usize::from(queue.produced);
+    let sink_count = counts[usize::from(queue.sink)];
+    let mut pairs = Vec::new();
+    for firing in 1..=counts[usize::from(queue.source)] {
+        let first_place = delay + (firing - 1) * produced;
+        let last_place = first_place + produced - 1;
+        for taken_by in taker(queue, first_place)..=taker(queue, last_place).min(sink_count) {
+            pairs.push((firing, taken_by));
         }
     }
-    found
-}
-
-/// The place at which a firing of the source puts one of its tokens.
-fn place(queue: &Queue, firing: usize, token: usize) -> usize {
-    usize::from(queue.delay) + (firing - 1) * usize::from(queue.produced) + token - 1
+    pairs
 }
 
 /// The firing of the sink that takes from a place.
 fn taker(queue: &Queue, place: usize) -> usize {
     place / usize::from(queue.consumed) + 1
-}
-
-/// The copy that a firing of a station belongs to, and the round.
-fn copy_and_round(firing: usize, station: usize, counts: &[usize]) -> (usize, usize) {
-    let first: usize = counts[..station].iter().sum();
-    let count = counts[station];
-    (first + (firing - 1) % count, (firing - 1) / count)
 }

@@ -1,22 +1,33 @@
-//! Kind 1: plans a sheet, as far as checks 1 to 8 and the period of the sheet's own delays.
+//! Kind 1: plans a sheet, as far as the retiming.
 
-use crate::period;
 use crate::ready::{self, Ready};
-use crate::refusal;
+use crate::refusal::{self, Refusal};
+use crate::search::{self, Found};
 
 /// Any body is a sheet or refused, so that none is malformed.
 pub fn answer(body: &[u8]) -> String {
-    match ready::read(body) {
-        Ok(ready) => line(&ready),
+    match plan(body) {
+        Ok((ready, found)) => lines(&ready, &found),
         Err(refusal) => refusal::line(&refusal),
     }
 }
 
-fn line(ready: &Ready) -> String {
-    let mut text = String::from("ready counts");
-    for count in &ready.counts {
-        text.push_str(&format!(" {count}"));
+fn plan(body: &[u8]) -> Result<(Ready, Found), Refusal> {
+    let ready = ready::read(body)?;
+    let found = search::search(&ready).ok_or(Refusal::NoRetiming)?;
+    Ok((ready, found))
+}
+
+fn lines(ready: &Ready, found: &Found) -> String {
+    let mut text = format!("accepted period {} rounds {}\n", found.period, found.rounds);
+    for (number, station) in ready.sheet.stations.iter().enumerate() {
+        text.push_str(&format!(
+            "station {number} tag {} count {} retime {}\n",
+            station.tag, ready.counts[number], found.retiming[number]
+        ));
     }
-    text.push_str(&format!(" period {}\n", period::period(&ready.sheet, &ready.copies)));
+    for (number, delay) in found.delays.iter().enumerate() {
+        text.push_str(&format!("queue {number} delay {delay}\n"));
+    }
     text
 }

@@ -16,6 +16,9 @@ mod paths;
 mod random;
 mod rates;
 mod shapes;
+mod slow;
+mod tight;
+mod undone;
 
 use random::Random;
 use std::io::{self, Write};

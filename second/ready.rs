@@ -2,7 +2,7 @@
 
 use crate::apart;
 use crate::balance;
-use crate::copies::{self, Copies};
+use crate::copies;
 use crate::refusal::Refusal;
 use crate::sheet::{self, Sheet};
 use crate::stuck;
@@ -10,7 +10,6 @@ use crate::stuck;
 pub struct Ready {
     pub sheet: Sheet,
     pub counts: Vec<usize>,
-    pub copies: Copies,
 }
 
 pub fn read(bytes: &[u8]) -> Result<Ready, Refusal> {
@@ -19,9 +18,9 @@ pub fn read(bytes: &[u8]) -> Result<Ready, Refusal> {
         return Err(Refusal::Apart);
     }
     let counts = balance::counts(&sheet).ok_or(Refusal::CountsFail)?;
-    let copies = copies::of(&sheet, &counts);
-    if stuck::stuck(&copies) {
+    let delays: Vec<usize> = sheet.queues.iter().map(|queue| usize::from(queue.delay)).collect();
+    if stuck::stuck(&copies::of(&sheet, &counts, &delays)) {
         return Err(Refusal::Stuck);
     }
-    Ok(Ready { sheet, counts, copies })
+    Ok(Ready { sheet, counts })
 }

@@ -10,6 +10,7 @@ pub enum Refusal {
     Apart,
     CountsFail,
     Stuck,
+    NoRetiming,
     Room,
 }
 
@@ -24,6 +25,7 @@ pub fn line(refusal: &Refusal) -> String {
         Refusal::Apart => (6, "apart", 0),
         Refusal::CountsFail => (7, "counts-fail", 0),
         Refusal::Stuck => (8, "stuck", 0),
+        Refusal::NoRetiming => (9, "no-retiming", 0),
         Refusal::Room => (11, "room", 0),
     };
     format!("refused {number} {word} place {place}\n")

@@ -10,7 +10,7 @@ enum Visit {
 }
 
 pub fn stuck(copies: &Copies) -> bool {
-    let mut visits = vec![Visit::Never; copies.followers.len()];
+    let mut visits = vec![Visit::Never; copies.needed.len()];
     (0..visits.len()).any(|copy| meets_loop(copy, copies, &mut visits))
 }
 
@@ -20,7 +20,7 @@ fn meets_loop(copy: usize, copies: &Copies, visits: &mut [Visit]) -> bool {
         return visits[copy] == Visit::Begun;
     }
     visits[copy] = Visit::Begun;
-    let met = copies.followers[copy].iter().any(|&next| meets_loop(next, copies, visits));
+    let met = copies.needed[copy].iter().any(|&before| meets_loop(before, copies, visits));
     visits[copy] = Visit::Ended;
     met
 }
