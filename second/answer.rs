@@ -4,10 +4,15 @@
 mod apart;
 mod balance;
 mod big;
+mod buffers;
 mod copies;
+mod dispatch;
 mod fields;
 mod finishes;
+mod firing;
 mod plan;
+mod planning;
+mod printed;
 mod read;
 mod ready;
 mod refusal;
@@ -37,15 +42,17 @@ fn main() -> io::Result<()> {
     io::stdout().write_all(text.as_bytes())
 }
 
-/// The lines of the answer, or nothing if the question is malformed. Each kind is one module.
+/// The lines of the answer, or nothing if the question is malformed.
 fn answer(question: &Question) -> Option<String> {
     if !question.whole || question.body.len() > LONGEST_BODY {
         return None;
     }
     match question.kind {
         1 => Some(plan::answer(question.body)),
+        2 => plan::answer_lent(question.body),
         3 => Some(read::answer(question.body)),
         4 => write::answer(question.body),
+        8 => dispatch::answer(question.body),
         _ => None,
     }
 }

@@ -26,6 +26,15 @@ impl<'a> Fields<'a> {
         Some(u32_at(self.take(4)?, 0))
     }
 
+    pub fn u64(&mut self) -> Option<u64> {
+        Some(u64::from(self.u32()?) + (u64::from(self.u32()?) << 32))
+    }
+
+    /// What is left of the body.
+    pub fn rest(&self) -> &'a [u8] {
+        self.rest
+    }
+
     pub fn at_end(&self) -> bool {
         self.rest.is_empty()
     }

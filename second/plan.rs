@@ -1,33 +1,32 @@
-//! Kind 1: plans a sheet, as far as the retiming.
+//! Kinds 1 and 2: plans a sheet, with buffers that no plan outgrows or with lent ones.
 
-use crate::ready::{self, Ready};
-use crate::refusal::{self, Refusal};
-use crate::search::{self, Found};
+use crate::buffers::{Buffers, MOST_ROUND, MOST_START, MOST_TIMES};
+use crate::fields::Fields;
+use crate::{planning, printed, refusal};
 
 /// Any body is a sheet or refused, so that none is malformed.
 pub fn answer(body: &[u8]) -> String {
-    match plan(body) {
-        Ok((ready, found)) => lines(&ready, &found),
+    lines(body, &mut Buffers::lent(MOST_START, MOST_ROUND, MOST_TIMES))
+}
+
+/// Nothing if the body doesn't begin with three lengths within their limits.
+pub fn answer_lent(body: &[u8]) -> Option<String> {
+    let mut fields = Fields::of(body);
+    let start = fields.u32()? as usize;
+    let round = fields.u32()? as usize;
+    let times = fields.u32()? as usize;
+    if start > MOST_START || round > MOST_ROUND || times > MOST_TIMES {
+        return None;
+    }
+    let mut buffers = Buffers::lent(start, round, times);
+    let mut text = lines(fields.rest(), &mut buffers);
+    text.push_str(&printed::list("kept", &buffers.kept()));
+    Some(text)
+}
+
+fn lines(sheet: &[u8], buffers: &mut Buffers) -> String {
+    match planning::plan(sheet, buffers) {
+        Ok(plan) => printed::lines(&plan),
         Err(refusal) => refusal::line(&refusal),
     }
-}
-
-fn plan(body: &[u8]) -> Result<(Ready, Found), Refusal> {
-    let ready = ready::read(body)?;
-    let found = search::search(&ready).ok_or(Refusal::NoRetiming)?;
-    Ok((ready, found))
-}
-
-fn lines(ready: &Ready, found: &Found) -> String {
-    let mut text = format!("accepted period {} rounds {}\n", found.period, found.rounds);
-    for (number, station) in ready.sheet.stations.iter().enumerate() {
-        text.push_str(&format!(
-            "station {number} tag {} count {} retime {}\n",
-            station.tag, ready.counts[number], found.retiming[number]
-        ));
-    }
-    for (number, delay) in found.delays.iter().enumerate() {
-        text.push_str(&format!("queue {number} delay {delay}\n"));
-    }
-    text
 }

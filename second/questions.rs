@@ -1,6 +1,8 @@
 //! Writes a question stream: `questions SEED COUNT`. A systematic part comes first and is the same
 //! for every seed, then a random part. The last of the COUNT questions is cut off in its middle.
 
+mod ask_dispatch;
+mod ask_lent;
 mod ask_malformed;
 mod ask_plan;
 mod ask_read;
@@ -71,6 +73,8 @@ fn stream(seed: u64, count: usize) -> Vec<u8> {
     ask_read::systematic(&mut stream);
     ask_write::systematic(&mut stream);
     ask_plan::systematic(&mut stream);
+    ask_lent::systematic(&mut stream);
+    ask_dispatch::systematic(&mut stream);
     ask_malformed::systematic(&mut stream);
     while stream.left > 0 {
         random_question(&mut random, &mut stream);
@@ -80,9 +84,11 @@ fn stream(seed: u64, count: usize) -> Vec<u8> {
 }
 
 fn random_question(random: &mut Random, stream: &mut Stream) {
-    match random.below(4) {
-        0 => stream.ask(3, &ask_read::random_body(random)),
-        1 => stream.ask(4, &ask_write::random_body(random)),
+    match random.below(10) {
+        0 | 1 => stream.ask(2, &ask_lent::random_body(random)),
+        2 => stream.ask(3, &ask_read::random_body(random)),
+        3 => stream.ask(4, &ask_write::random_body(random)),
+        4 => stream.ask(8, &ask_dispatch::random_body(random)),
         _ => stream.ask(1, &ask_plan::random_body(random)),
     }
 }
@@ -90,7 +96,7 @@ fn random_question(random: &mut Random, stream: &mut Stream) {
 /// The beginning of a question: a part of its head, or its head and less body than that tells of.
 fn cut_question(random: &mut Random) -> Vec<u8> {
     let body = ask_read::random_valid_body(random);
-    let mut bytes = question(*random.pick(&[1, 3, 4]), &body);
+    let mut bytes = question(*random.pick(&[1, 2, 3, 4, 8]), &body);
     match random.below(4) {
         0 | 1 => bytes.truncate(1 + random.below(4)),
         2 => bytes.truncate(5 + random.below(body.len())),

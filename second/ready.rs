@@ -18,8 +18,7 @@ pub fn read(bytes: &[u8]) -> Result<Ready, Refusal> {
         return Err(Refusal::Apart);
     }
     let counts = balance::counts(&sheet).ok_or(Refusal::CountsFail)?;
-    let delays: Vec<usize> = sheet.queues.iter().map(|queue| usize::from(queue.delay)).collect();
-    if stuck::stuck(&copies::of(&sheet, &counts, &delays)) {
+    if stuck::stuck(&copies::of(&sheet, &counts, &sheet.delays())) {
         return Err(Refusal::Stuck);
     }
     Ok(Ready { sheet, counts })

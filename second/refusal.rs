@@ -11,6 +11,7 @@ pub enum Refusal {
     CountsFail,
     Stuck,
     NoRetiming,
+    ListStuck,
     Room,
 }
 
@@ -26,6 +27,7 @@ pub fn line(refusal: &Refusal) -> String {
         Refusal::CountsFail => (7, "counts-fail", 0),
         Refusal::Stuck => (8, "stuck", 0),
         Refusal::NoRetiming => (9, "no-retiming", 0),
+        Refusal::ListStuck => (10, "list-stuck", 0),
         Refusal::Room => (11, "room", 0),
     };
     format!("refused {number} {word} place {place}\n")

@@ -8,7 +8,7 @@ use crate::sheet::Sheet;
 use std::collections::HashSet;
 
 pub struct Found {
-    pub retiming: Vec<i64>,
+    pub retiming: Vec<usize>,
     pub delays: Vec<usize>,
     pub period: u64,
     pub rounds: usize,
@@ -34,7 +34,7 @@ pub fn search(ready: &Ready) -> Option<Found> {
             return None;
         }
         for (station, finish) in copies.stations.iter().zip(finishes) {
-            retiming[*station] += i64::from(finish > u64::from(sheet.target));
+            retiming[*station] += usize::from(finish > u64::from(sheet.target));
         }
     }
     None
@@ -42,7 +42,8 @@ pub fn search(ready: &Ready) -> Option<Found> {
 
 /// The copies that depend without delay on a late copy are late too, so that no queue is asked for
 /// more than it holds.
-fn legal_delays(sheet: &Sheet, retiming: &[i64]) -> Vec<usize> {
-    let delays = retiming::new_delays(sheet, retiming).into_iter();
+fn legal_delays(sheet: &Sheet, retiming: &[usize]) -> Vec<usize> {
+    let retiming: Vec<i64> = retiming.iter().map(|&raised| raised as i64).collect();
+    let delays = retiming::new_delays(sheet, &retiming).into_iter();
     delays.map(|delay| usize::try_from(delay).expect("the search stays legal")).collect()
 }

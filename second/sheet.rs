@@ -27,6 +27,12 @@ pub struct Sheet {
     pub queues: Vec<Queue>,
 }
 
+impl Sheet {
+    pub fn delays(&self) -> Vec<usize> {
+        self.queues.iter().map(|queue| usize::from(queue.delay)).collect()
+    }
+}
+
 pub fn version_known(version: u16) -> bool {
     version == 1
 }

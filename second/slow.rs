@@ -109,20 +109,23 @@ fn pairs() -> Vec<Draft> {
 /// The last three have 256 copies and take 255 rounds, the most that any search takes.
 fn relays() -> Vec<Draft> {
     let mut drafts = Vec::new();
-    for (pairs, singles) in [
-        (&[3, 3][..], 0),
-        (&[3, 7, 1], 3),
-        (&[31, 15, 7, 3, 1], 2),
-        (&[59, 54], 28),
-        (&[63, 7, 7, 7, 3, 3, 3, 3, 3, 3, 3, 3, 3, 3, 3, 3], 0),
-        (&[63, 63], 2),
+    for draft in [
+        relay(&[3, 3], 0).draft(),
+        relay(&[3, 7, 1], 3).draft(),
+        relay(&[31, 15, 7, 3, 1], 2).draft(),
+        relay(&[59, 54], 28).draft(),
+        relay(&[63, 7, 7, 7, 3, 3, 3, 3, 3, 3, 3, 3, 3, 3, 3, 3], 0).draft(),
+        most_rounds(),
     ] {
-        let draft = relay(pairs, singles).draft();
         let queues = turned(draft.stations.len(), &draft.queues);
         drafts.push(Draft { queues, ..draft.clone() });
         drafts.extend([with_tokens(&draft, 3, -1), with_tokens(&draft, 3, 1), draft]);
     }
     drafts
+}
+
+pub fn most_rounds() -> Draft {
+    relay(&[63, 63], 2).draft()
 }
 
 fn with_tokens(draft: &Draft, queue: usize, more: i16) -> Draft {

@@ -25,13 +25,18 @@ impl Retimed {
 
 pub fn random(random: &mut Random) -> Draft {
     let counts = random_counts(random);
+    with_counts(&counts, random)
+}
+
+/// The counts may have a common divisor, or be more than a plan may have.
+pub fn with_counts(counts: &[usize], random: &mut Random) -> Draft {
     let times: Vec<u16> = random_times(counts.len(), random);
     let size = if random.one_in(2) { 1 } else { 1 + random.below(counts.len().div_ceil(2)) };
-    let queues: Vec<Retimed> = balanced::random_ends(&counts, random)
+    let queues: Vec<Retimed> = balanced::random_ends(counts, random)
         .into_iter()
-        .filter_map(|(source, sink)| retimed(source, sink, size, &counts, random))
+        .filter_map(|(source, sink)| retimed(source, sink, size, counts, random))
         .collect();
-    let retiming = random_retiming(&counts, &queues, random);
+    let retiming = random_retiming(counts, &queues, random);
     let fields = |queue: &Retimed| {
         let delay = queue.undone(&retiming).min(LARGEST_DELAY);
         let ends = [queue.source as i64, queue.sink as i64];
@@ -43,7 +48,7 @@ pub fn random(random: &mut Random) -> Draft {
     draft
 }
 
-fn random_counts(random: &mut Random) -> Vec<usize> {
+pub fn random_counts(random: &mut Random) -> Vec<usize> {
     if random.one_in(8) {
         return balanced::random_counts(random);
     }
