@@ -69,9 +69,9 @@ module _ (n m : ℕ) (source sink produced consumed delay time q : List ℕ) (to
     count-few : (v : ℕ) → at q v ≤ 256
     count-few v = ⊎-elim (λ l. omega (arith, sum-above n (at q) v l, c .adds, c .few)) (λ l. omega (arith, c .beyond v l)) (lt-or-ge v n)
 
-    module _ {retiming current order : List ℕ} {rounds : ℕ} (u : Underway retiming current order rounds) (given : DelaysGiven m delay) (few : rounds ≤ total) where
+    module _ {retiming current order : List ℕ} {rounds : ℕ} (u : Underway retiming current order rounds) (given : DelaysGiven m delay) (few : rounds ≤ 256) where
       pub retiming-few : (v : ℕ) → at retiming v ≤ 65536
-      retiming-few v = let r : rounds ≤ 256 = omega (arith, c .few) in omega (arith, search-bound G W d target (u .searched) v, mul-le-mul r (count-few v))
+      retiming-few v = omega (arith, search-bound G W d target (u .searched) v, mul-le-mul few (count-few v))
 
       delay-few : (e : ℕ) → at current e ≤ 4198399
       delay-few e =
@@ -205,9 +205,10 @@ module _ (n m : ℕ) (source sink produced consumed delay time q : List ℕ) (to
                     let y = l .reached in
                     (y .0, many-last (k .many (y .0) (y .1)) (c .positive (y .0) (y .1)) (omega (arith, y .2)))
 
-    -- N rounds raised something
-    pub gave-up : {retiming current order list : List ℕ} → Ordered n m source sink produced consumed delay time q total list → Underway retiming current order total → (z : ℕ → ℤ) → Serves G d target z → ⊥
-    gave-up {list = list} o u = too-long G W d target (record { order = take total list; run = o .run; all-fired = o .whole }) (u .searched) some (omega (arith, c .adds))
+    -- N rounds or more raised something
+    pub gave-up : {retiming current order list : List ℕ} {rounds : ℕ} → Ordered n m source sink produced consumed delay time q total list → Underway retiming current order rounds → total ≤ rounds
+        → (z : ℕ → ℤ) → Serves G d target z → ⊥
+    gave-up {list = list} o u h = too-long G W d target (record { order = take total list; run = o .run; all-fired = o .whole }) (u .searched) some (omega (arith, c .adds))
       where
         some : 1 ≤ sum n (at q)
         some = omega (arith, sum-above n (at q) 0 (c .chain .some), c .positive 0 (c .chain .some))

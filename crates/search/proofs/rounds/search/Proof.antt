@@ -1,5 +1,5 @@
-use Prim.Native.Nat.{_-_, _≤_}
-use mathlib.Core.Path.{_≡_, refl}
+use Prim.Native.Nat.{_-_, _≤_, _<_}
+use mathlib.Core.Path.{refl}
 use native.Mathlib.Omega.{arith}
 use borrow.Author.Needs.{needs}
 use Rattle.lists.proofs.TestLaws.{differ}
@@ -9,10 +9,10 @@ use Rattle.search.proofs.rounds.search.Tie as tie
 
 abbrev Inv-loop : tie.InvT-loop
 Inv-loop n m total source sink produced consumed delay head next q time target list base retiming₀ current₀ order₀ rounds₀ retiming current order rounds =
-    (rounds ≤ total) × Underway n m source sink produced consumed delay time q total target retiming current order rounds
+    (rounds ≤ 256) × Underway n m source sink produced consumed delay time q total target retiming current order rounds
 
 abbrev μ-loop : tie.MeasureT-loop
-μ-loop n m total source sink produced consumed delay head next q time target list base retiming₀ current₀ order₀ rounds₀ retiming current order rounds = total - rounds
+μ-loop n m total source sink produced consumed delay head next q time target list base retiming₀ current₀ order₀ rounds₀ retiming current order rounds = 256 - rounds
 
 abbrev begin : tie.In-loop Inv-loop μ-loop → tie.Start Inv-loop μ-loop
 begin i = i .before .before .before .before .before
@@ -25,6 +25,10 @@ turn c = c .before .before .before .before
 
 abbrev raised-in : tie.After-raised Inv-loop μ-loop → tie.In-loop Inv-loop μ-loop
 raised-in c = turn (table (c .before .before .before .before .before .before .before .before .before .before .before .before .before))
+
+-- one more round is within 256
+few : (i : tie.In-loop Inv-loop μ-loop) → i .before .loop .rounds < 256
+few i = omega (arith, i .loop-test .taken, begin i .pre .0 .few, begin i .pre .0 .chain .few)
 
 bases-requires : tie.Need-bases-requires Inv-loop μ-loop
 bases-requires c κs = (c .pre .0 .chain .few, omega (arith, c .pre .0 .adds, c .pre .0 .few))
@@ -52,7 +56,7 @@ returns c =
     let i = turn t in
     let a = begin i .pre in
     record {
-      found = λ e. ended _ _ _ _ _ _ _ _ _ _ _ (a .0) (i .before .loop .inv .1) (a .1 .1 .0) (i .before .loop .inv .0) (i .before .before .before .before .bases .ensures) (t .time-table .ensures) (c .before .latest-end .ensures) (c .if1 .taken);
+      found = λ e. ended _ _ _ _ _ _ _ _ _ _ _ (a .0) (i .before .loop .inv .1) (a .1 .1 .0) (i .before .loop .inv .0) (i .before .before .before .before .bases .ensures) (t .time-table .ensures) (c .before .latest-end .ensures) (omega (arith, c .if1 .taken));
       none = λ e. absurd (differ refl e);
     }
 
@@ -91,10 +95,10 @@ raised-requires c κs =
     (a .0 .chain .few, λ v h. (retiming-few _ _ _ _ _ _ _ _ _ _ _ (a .0) (i .before .loop .inv .1) (a .1 .1 .0) (i .before .loop .inv .0) v, late-small _ _ _ _ _ _ _ _ _ _ _ (a .0) (i .before .loop .inv .1) (a .1 .1 .0) (i .before .loop .inv .0) (i .before .before .before .before .bases .ensures) (t .time-table .ensures) (s .latest-end .ensures) (k .late-counts .ensures) v))
 
 add-rounds : tie.Need-add-rounds Inv-loop μ-loop
-add-rounds c = let i = raised-in c in omega (arith, i .loop-test .taken, begin i .pre .0 .few)
+add-rounds c = omega (arith, raised-in c .before .loop .inv .0)
 
 loop-less : tie.Need-loop-less Inv-loop μ-loop
-loop-less c = let i = raised-in c in omega (arith, i .loop-test .taken)
+loop-less c = omega (arith, few (raised-in c))
 
 loop-again : tie.Need-loop-again Inv-loop μ-loop
 loop-again c =
@@ -105,7 +109,7 @@ loop-again c =
     let a = begin i .pre in
     let n = c .before .before .before in
     let e = k .before .before .before in (
-      omega (arith, i .loop-test .taken),
+      omega (arith, few i),
       raised-once _ _ _ _ _ _ _ _ _ _ _ (a .0) (i .before .loop .inv .1) (a .1 .1 .0) (i .before .loop .inv .0) (i .before .before .before .before .bases .ensures) (t .time-table .ensures) (s .latest-end .ensures) (k .late-counts .ensures) (e .if1 .left) (c .raised .ensures) (n .new-delays .ensures) (n .before .before .before .reorder .ensures),
     )
 
@@ -113,11 +117,10 @@ returns-2 : tie.Need-returns-2 Inv-loop μ-loop
 returns-2 c =
     let l = c .before in
     let a = l .before .before .before .before in
-    let all : l .loop .rounds ≡ a .args .total = omega arith in
     record {
       found = λ e. absurd (differ e refl);
       none = λ e. record {
-        none = gave-up _ _ _ _ _ _ _ _ _ _ _ (a .pre .0) (a .pre .1 .1 .1) (rw all at (l .loop .inv .1));
+        none = gave-up _ _ _ _ _ _ _ _ _ _ _ (a .pre .0) (a .pre .1 .1 .1) (l .loop .inv .1) (c .loop-test .left);
         no-rounds = refl;
         no-period = refl;
         no-retiming = refl;
