@@ -12,9 +12,9 @@ use Rattle.lists.specs.Front.{at}
 use Rattle.lists.specs.Test.{Tells}
 use Rattle.lists.proofs.Order.{lt-or-ge}
 use Rattle.lists.proofs.StoreLaws.{at-zeros}
-use Rattle.refusals.specs.First.{Row, First, free}
+use Rattle.refusals.specs.First.{Row, Passed, nth, First, free}
 use Rattle.refusals.specs.Table.{apart, counts-fail, stuck}
-use Rattle.refusals.proofs.FirstLaws.{here-now, passed, none, extend, append, all-passed, front-passed}
+use Rattle.refusals.proofs.FirstLaws.{here-now, passed, none, extend, append, all-passed}
 use Rattle.dataflow.specs.Net.{Sound}
 use Rattle.dataflow.specs.Counts.{Counts}
 use Rattle.dataflow.specs.Lists.{RoundList}
@@ -160,16 +160,15 @@ module _ {f : Sheet} {r : Checked} (h : Ready f r) where
       }
 
 -- a sheet that no row of reading refuses is within limits
-pub rows-chain : (s : List ℕ) (more : List Row) {number place : ℕ} → First (readRows s ++ more) number place → number ≡ 0
-    → Chain (sheetOf s .n) (sheetOf s .m) (sheetOf s .source) (sheetOf s .sink) (sheetOf s .produced) (sheetOf s .consumed)
-rows-chain s more v e =
+pub rows-chain : (s : List ℕ) → ((j : ℕ) → j < 5 → Passed (nth (readRows s) j)) → Chain (sheetOf s .n) (sheetOf s .m) (sheetOf s .source) (sheetOf s .sink) (sheetOf s .produced) (sheetOf s .consumed)
+rows-chain s all =
     let r : Reading = record { number = 0; place = 0; sheet = sheetOf s } in
-    read-chain s r (record { verdict = free (front-passed (readRows s) more (all-passed v e)); accepted = λ z. refl; refused = λ z. absurd (z refl) }) refl
+    read-chain s r (record { verdict = free all; accepted = λ z. refl; refused = λ z. absurd (z refl) }) refl
 
 -- and with its counts it is sound
-pub rows-sound : (s : List ℕ) (more : List Row) {number place : ℕ} → First (readRows s ++ more) number place → number ≡ 0 → (q : List ℕ) → CountsOf (sheetOf s) q → Sound (netFor (sheetOf s) q)
-rows-sound s more v e q c =
-    let chain = rows-chain s more v e in
+pub rows-sound : (s : List ℕ) → ((j : ℕ) → j < 5 → Passed (nth (readRows s) j)) → (q : List ℕ) → CountsOf (sheetOf s) q → Sound (netFor (sheetOf s) q)
+rows-sound s all q c =
+    let chain = rows-chain s all in
     sheet-sound (columnsOf (sheetOf s)) q (record {
       beyond = c .beyond;
       positive = c .counts .balances .positive;

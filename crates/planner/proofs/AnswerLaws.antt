@@ -12,7 +12,7 @@ use Rattle.checks.specs.Check.{checkRows, Ready, Checks}
 use Rattle.search.specs.declared.Found.{Found}
 use Rattle.planner.specs.declared.Planning.{Planning}
 use Rattle.planner.specs.Making.{Listed, HasRoom, Wrote, Shown}
-use Rattle.planner.specs.Plan.{retimingRow, listsRow, roomRow, refusedBy, Answers, planRows, Plans}
+use Rattle.planner.specs.Plan.{roomRow, refusedBy, Answers, retimedRows, planRows, Plans}
 use Rattle.planner.proofs.HoldLaws.{planned}
 use Rattle.planner.proofs.RowLaws.{room-passed}
 
@@ -43,11 +43,11 @@ ready-own {c = c} h = subst (λ (x : Sheet). Ready x c) (sym (h .sheet)) h
 
 module _ {s : List ℕ} {c : Checked} (k : Checks s c) (start round times : List ℕ) where
   pub check-refused : (c .number ≡ 0 → ⊥) → First (planRows s (length start) (length round) (length times)) (c .number) (c .place)
-  check-refused e = extend (checkRows s) (retimingRow (sheetOf s) ∷ listsRow (sheetOf s) ∷ roomRow (sheetOf s) (length start) (length round) (length times) ∷ []) (k .verdict) e
+  check-refused e = extend (checkRows s) (retimedRows (sheetOf s) (length start) (length round) (length times)) (k .verdict) e
 
   pub check-passed : c .number ≡ 0 → {r : Planning} {start′ round′ times′ : List ℕ}
-      → Answers (retimingRow (c .sheet) ∷ listsRow (c .sheet) ∷ roomRow (c .sheet) (length start) (length round) (length times) ∷ []) (c .sheet) start round times r start′ round′ times′
+      → Answers (retimedRows (c .sheet) (length start) (length round) (length times)) (c .sheet) start round times r start′ round′ times′
       → Plans s start round times r start′ round′ times′
   check-passed e {r} {start′} {round′} {times′} a =
-      let b = subst (λ (f : Sheet). Answers (retimingRow f ∷ listsRow f ∷ roomRow f (length start) (length round) (length times) ∷ []) f start round times r start′ round′ times′) (k .accepted e .sheet) a in
+      let b = subst (λ (f : Sheet). Answers (retimedRows f (length start) (length round) (length times)) f start round times r start′ round′ times′) (k .accepted e .sheet) a in
       record { verdict = append (checkRows s) (all-passed (k .verdict) e) (b .verdict); accepted = b .accepted; refused = b .refused }

@@ -5,3 +5,4 @@ pub mod HoldLaws
 pub mod AnswerLaws
 pub mod Unique
 pub mod FitLaws
+pub mod RoomLaws

@@ -21,6 +21,7 @@ use Rattle.checks.specs.Check.{columnsOf, netFor, delaysFor, CountsOf}
 use Rattle.checks.proofs.CheckLaws.{counts-of-once, rows-sound}
 use Rattle.planner.specs.declared.Planning.{Planning}
 use Rattle.planner.specs.Plan.{Only, Planned, refusedBy, Plans}
+use Rattle.planner.proofs.FitLaws.{read-free}
 
 -- the lists of an answer have their lengths
 pub record Sized (r : Planning) : Type 0 where
@@ -144,7 +145,7 @@ plan-unique s start round times r r′ z z′ start′ round′ times′ start�
     go (yes e) =
         let p = a .accepted e in
         let p′ = a′ .accepted (sym (same .0) ∙ e) in
-        let W = rows-sound s _ (a .verdict) e (r .q) (p .counts) in
+        let W = rows-sound s (read-free s start round times r start′ round′ times′ a e) (r .q) (p .counts) in
         record {
           result = same-planned _ start round times r r′ z z′ start′ round′ times′ start″ round″ times″ p p′ W (same .0) (same .1);
           start = same-start _ start round times r r′ z z′ start′ round′ times′ start″ round″ times″ p p′ W;

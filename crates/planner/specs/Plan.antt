@@ -46,8 +46,12 @@ startLength n q retiming back = sum n (λ v. back * at q v - at retiming v)
 abbrev pub roomRow : Sheet → (start round times : ℕ) → Row
 roomRow f start round times = workedRow f room (λ q retiming back. (start < startLength (f .n) q retiming back) ⊎ ((round < sum (f .n) (at q)) ⊎ (times < sum (f .n) (at q))))
 
+-- 9, 10 and 11
+abbrev pub retimedRows : Sheet → (start round times : ℕ) → List Row
+retimedRows f start round times = retimingRow f ∷ listsRow f ∷ roomRow f start round times ∷ []
+
 abbrev pub planRows : (s : List ℕ) (start round times : ℕ) → List Row
-planRows s start round times = checkRows s ++ (retimingRow (sheetOf s) ∷ listsRow (sheetOf s) ∷ roomRow (sheetOf s) start round times ∷ [])
+planRows s start round times = checkRows s ++ retimedRows (sheetOf s) start round times
 
 -- the first k entries of a buffer were written, and nothing else
 pub record Only (k : ℕ) (before after : List ℕ) : Type 0 where

@@ -5,7 +5,7 @@ ghost use mathlib.Core.List.{[], _∷_};
 ghost use lib.ListN.{length};
 ghost use Rattle.checks.specs.Check.{Ready};
 ghost use Rattle.planner.specs.Making.{Retimed, Begun, Listed, HasRoom, Wrote, Shown};
-ghost use Rattle.planner.specs.Plan.{retimingRow, listsRow, roomRow, refusedBy, Answers, Plans};
+ghost use Rattle.planner.specs.Plan.{listsRow, roomRow, retimedRows, refusedBy, Answers, Plans};
 ghost use Rattle.planner.specs.Lists.{BothComplete};
 use crate::Planning;
 use crate::listing::both_complete;
@@ -209,7 +209,7 @@ fn listed(
 // 9, then 10 and 11.
 fn searched(checked: Checked, start: &mut [u16], round: &mut [u16], times: &mut [u32]) -> Planning
     requires { ⌜ Ready (checked .sheet) checked ⌝ }
-    ensures { λ r. ⌜ Answers (retimingRow (checked .sheet) ∷ listsRow (checked .sheet) ∷ roomRow (checked .sheet) (length (now (start .entry))) (length (now (round .entry))) (length (now (times .entry))) ∷ []) (checked .sheet) (now (start .entry)) (now (round .entry)) (now (times .entry)) r (now (start .exit)) (now (round .exit)) (now (times .exit)) ⌝ }
+    ensures { λ r. ⌜ Answers (retimedRows (checked .sheet) (length (now (start .entry))) (length (now (round .entry))) (length (now (times .entry)))) (checked .sheet) (now (start .entry)) (now (round .entry)) (now (times .entry)) r (now (start .exit)) (now (round .exit)) (now (times .exit)) ⌝ }
 {
     let source = checked.sheet.source;
     let sink = checked.sheet.sink;

@@ -75,11 +75,23 @@ pub append : (rows : List Row) {more : List Row} {number place : ℕ} → ((j : 
 append [] p f = f
 append (r ∷ rows) p f = passed (p 0 (omega arith)) (append rows (λ j h. p (suc j) (omega arith)) f)
 
--- and where every row of a longer list applies nowhere, so does each of its front
-pub front-passed : (rows more : List Row) → ((j : ℕ) → j < length (rows ++ more) → Passed (nth (rows ++ more) j)) → (j : ℕ) → j < length rows → Passed (nth rows j)
+-- a row of the front of a list is that row of the list
+pub front-passed : (rows more : List Row) → ((j : ℕ) → j < length rows → Passed (nth (rows ++ more) j)) → (j : ℕ) → j < length rows → Passed (nth rows j)
 front-passed [] more p j b = absurd (not-suc-le-zero b)
 front-passed (r ∷ rows) more p zero b = p 0 (omega arith)
 front-passed (r ∷ rows) more p (suc j) b = front-passed rows more (λ i h. p (suc i) (omega arith)) j (omega arith)
+
+-- what a refusal tells: its row applies, and every row before it nowhere
+pub record Given (rows : List Row) (k place : ℕ) : Type 0 where
+  pub row : ℕ
+  pub here : row < length rows
+  pub before : (j : ℕ) → j < row → Passed (nth rows j)
+  pub applies : nth rows row .applies place
+  pub is : k ≡ number (nth rows row .refusal)
+
+pub refusal-given : {rows : List Row} {k place : ℕ} → First rows k place → (k ≡ 0 → ⊥) → Given rows k place
+refusal-given (given i b f l) e = record { row = i; here = b; before = f; applies = l .applies; is = refl }
+refusal-given (free f) e = absurd (e refl)
 
 -- no second number and place
 pub unique : {rows : List Row} {k p k′ p′ : ℕ} → First rows k p → First rows k′ p′ → (k ≡ k′) × (p ≡ p′)
