@@ -60,6 +60,12 @@ counts-of-once f q q′ c c′ =
     ext-getD 0 q q′ (c .entries ∙ sym (c′ .entries))
     (λ v h. ⊎-elim (λ l. counts-once (netFor f q) (at q) (at q′) (c .counts) (any-counts f q′ q (at q′) (c′ .counts)) v l) (λ l. c .beyond v l ∙ sym (c′ .beyond v l)) (lt-or-ge v (f .n)))
 
+-- 8 is not given where a round can be fired
+pub round-passed : (f : Sheet) {q : List ℕ} → CountsOf f q → Sound (netFor f q) → (l : List ℕ) → RoundList (netFor f q) (delaysFor f q) l → Passed (stuckRow f)
+round-passed f {q} of W l round place a =
+    stuck-cannot-fire (netFor f q) W (delaysFor f q) (subst (λ (x : List ℕ). Stuck (netFor f x) (delaysFor f x)) (counts-of-once f (a .0) q (a .1) of) (a .2))
+    (round-of-list (netFor f q) W (delaysFor f q) l round)
+
 module _ (f : Sheet) {total : ℕ} {q : List ℕ} (c : CountedChain (f .n) (f .m) (f .source) (f .sink) (f .produced) (f .consumed) q total) (of : CountsOf f q) {delay : List ℕ} (wide : delay ≡ f .delay)
     {fires : Bool} {list : List ℕ} (F : Fires (f .n) (f .m) (f .source) (f .sink) (f .produced) (f .consumed) delay q total fires (replicate 256 0) list) where
   -- 8 is given
@@ -75,12 +81,7 @@ module _ (f : Sheet) {total : ℕ} {q : List ℕ} (c : CountedChain (f .n) (f .m
 
     -- or none is
     pub fires-passed : First (stuckRow f ∷ []) 0 0
-    fires-passed = passed {r = stuckRow f} unstuck none
-      where
-        unstuck : (place : ℕ) → stuckRow f .applies place → ⊥
-        unstuck place a =
-            stuck-cannot-fire (netFor f q) (sound c (f .time)) (delaysFor f q) (subst (λ (x : List ℕ). Stuck (netFor f x) (delaysFor f x)) (counts-of-once f (a .0) q (a .1) of) (a .2))
-            (round-of-list (netFor f q) (sound c (f .time)) (delaysFor f q) (F .made) round-list)
+    fires-passed = passed {r = stuckRow f} (round-passed f of (sound c (f .time)) (F .made) round-list) none
 
     pub is-ready : {head next : List ℕ} → Threads (f .n) (f .m) (f .sink) head next → DelaysGiven (f .m) (f .delay)
         → Ready f (record { number = 0; place = 0; sheet = f; total = total; q = q; delay = delay; head = head; next = next; list = list })

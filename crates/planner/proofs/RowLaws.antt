@@ -10,11 +10,13 @@ use Rattle.lists.specs.Front.{at}
 use Rattle.refusals.specs.Table.{no-retiming, list-stuck, room}
 use Rattle.refusals.specs.First.{Row, Passed, First}
 use Rattle.refusals.proofs.FirstLaws.{here-now, passed, none}
+use Rattle.dataflow.specs.Net.{Sound}
 use Rattle.dataflow.specs.Counts.{sum}
 use Rattle.dataflow.specs.Lists.{StartList, RoundList}
 use Rattle.dataflow.specs.Retiming.{whole, retimed, Serves}
 use Rattle.dataflow.specs.Refusals.{listRow}
 use Rattle.dataflow.specs.Sheet.{Below}
+use Rattle.dataflow.specs.Stuck.{RoundFires}
 use Rattle.dataflow.proofs.ListLaws.{list-same}
 use Rattle.dataflow.proofs.PlanLaws.{lists-never-stuck, back-once}
 use Rattle.dataflow.proofs.SumLaws.{sum-same}
@@ -41,26 +43,50 @@ none-serve {c} h n =
     here-now no-retiming
     (c .q, h .counts, subst (λ (d : List ℕ). (z : ℕ → ℤ) → Serves (netFor f (c .q)) (delaysOf (f .m) d) (f .target) z → ⊥) (h .delays) (n .none))
 
+module _ {f : Sheet} {q : List ℕ} (counts : CountsOf f q) where
+  -- or some whole numbers serve, and it isn't
+  pub serving : (z : ℕ → ℤ) → Serves (netFor f q) (delaysFor f q) (f .target) z → Passed (retimingRow f)
+  serving z ok place a =
+      subst (λ (x : List ℕ). (z : ℕ → ℤ) → Serves (netFor f x) (delaysFor f x) (f .target) z → ⊥) (counts-of-once f (a .0) q (a .1) counts) (a .2) z ok
+
+  module _ (W : Sound (netFor f q)) where
+    -- 10 is not given where a round can be fired
+    pub listing : RoundFires (netFor f q) (delaysFor f q) → Passed (listsRow f)
+    listing fires place a = go (a .0) (a .1) (a .2) (counts-of-once f (a .0) q (a .3 .counts) counts) (a .3) (a .4)
+      where
+        go : (p retiming : List ℕ) (back : ℕ) → p ≡ q → Worked f p retiming back
+            → listRow (netFor f p) (delaysFor f p) (retimed (netFor f p) (delaysFor f p) (whole (at retiming))) (at retiming) back .applies 0 → ⊥
+        go p retiming back e w x =
+            let w′ = subst (λ (y : List ℕ). Worked f y retiming back) e w in
+            lists-never-stuck (netFor f q) W (delaysFor f q) fires (at retiming) (w′ .retimes .serves .legal) back (w′ .backs .covers) 0
+            (subst (λ (y : List ℕ). listRow (netFor f y) (delaysFor f y) (retimed (netFor f y) (delaysFor f y) (whole (at retiming))) (at retiming) back .applies 0) e x)
+
+    -- 11 is not given where the buffers are as long as needed
+    pub roomy : {retiming : List ℕ} {back : ℕ} → Worked f q retiming back → (x y z : ℕ) → startLength (f .n) q retiming back ≤ x → sum (f .n) (at q) ≤ y → sum (f .n) (at q) ≤ z → Passed (roomRow f x y z)
+    roomy {retiming} {back} mine x y z a k l place p = go (p .0) (p .1) (p .2) (counts-of-once f (p .0) q (p .3 .counts) counts) (p .3) (p .4)
+      where
+        go : (q′ retiming′ : List ℕ) (back′ : ℕ) → q′ ≡ q → Worked f q′ retiming′ back′ → (x < startLength (f .n) q′ retiming′ back′) ⊎ ((y < sum (f .n) (at q′)) ⊎ (z < sum (f .n) (at q′))) → ⊥
+        go q′ retiming′ back′ e w (inr (inl s)) = omega (arith, ap (λ (o : List ℕ). sum (f .n) (at o)) e)
+        go q′ retiming′ back′ e w (inr (inr s)) = omega (arith, ap (λ (o : List ℕ). sum (f .n) (at o)) e)
+        go q′ retiming′ back′ e w (inl s) = omega (arith, sum-same (f .n) (λ v. back′ * at q′ v - at retiming′ v) (λ v. back * at q v - at retiming v) (λ v o. same v o))
+          where
+            w′ : Worked f q retiming′ back′
+            w′ = subst (λ (o : List ℕ). Worked f o retiming′ back′) e w
+
+            entry : (v : ℕ) → v < f .n → at retiming′ v ≡ at retiming v
+            entry v o = omega (arith, w′ .retimes .least (at retiming) (mine .retimes .serves) v o, mine .retimes .least (at retiming′) (w′ .retimes .serves) v o)
+
+            same : (v : ℕ) → v < f .n → back′ * at q′ v - at retiming′ v ≡ back * at q v - at retiming v
+            same v o =
+                let n = back-once (netFor f q) W (at retiming′) (at retiming) back′ back entry (w′ .backs) (mine .backs) in
+                rw (n, e, entry v o) refl
+
 module _ {c : Checked} {r : Found} (h : Retimed c r) where
-  abbrev f : Sheet
-  f = c .sheet
+  pub serve-passed : Passed (retimingRow (c .sheet))
+  serve-passed = serving (h .ready .counts) (whole (at (r .retiming))) (retimes h .retiming .serves)
 
-  -- or it isn't
-  pub serve-passed : Passed (retimingRow f)
-  serve-passed place a =
-      let q = counts-of-once f (a .0) (c .q) (a .1) (h .ready .counts) in
-      subst (λ (x : List ℕ). (z : ℕ → ℤ) → Serves (netFor f x) (delaysFor f x) (f .target) z → ⊥) q (a .2) (whole (at (r .retiming))) (retimes h .retiming .serves)
-
-  -- 10 is not given
-  pub lists-passed : Passed (listsRow f)
-  lists-passed place a = go (a .0) (a .1) (a .2) (counts-of-once f (a .0) (c .q) (a .3 .counts) (h .ready .counts)) (a .3) (a .4)
-    where
-      go : (q retiming : List ℕ) (back : ℕ) → q ≡ c .q → Worked f q retiming back
-          → listRow (netFor f q) (delaysFor f q) (retimed (netFor f q) (delaysFor f q) (whole (at retiming))) (at retiming) back .applies 0 → ⊥
-      go q retiming back e w x =
-          let w′ = subst (λ (y : List ℕ). Worked f y retiming back) e w in
-          lists-never-stuck (netFor f (c .q)) (W h) (delaysFor f (c .q)) (fires-round h) (at retiming) (w′ .retimes .serves .legal) back (w′ .backs .covers) 0
-          (subst (λ (y : List ℕ). listRow (netFor f y) (delaysFor f y) (retimed (netFor f y) (delaysFor f y) (whole (at retiming))) (at retiming) back .applies 0) e x)
+  pub lists-passed : Passed (listsRow (c .sheet))
+  lists-passed = listing (h .ready .counts) (W h) (fires-round h)
 
 module _ {c : Checked} {r : Found} {back : ℕ} {firings : List ℕ} {starts : ℕ} (b : Begun c r back firings starts) where
   abbrev g : Sheet
@@ -100,24 +126,6 @@ module _ {c : Checked} {r : Found} {back : ℕ} {firings : List ℕ} {starts : �
 
     -- or it isn't
     pub room-passed : starts ≤ x → c .total ≤ y → c .total ≤ z → Passed (roomRow g x y z)
-    room-passed a k l place p = go (p .0) (p .1) (p .2) (counts-of-once g (p .0) (c .q) (p .3 .counts) (b .retimed .ready .counts)) (p .3) (p .4)
-      where
-        go : (q retiming : List ℕ) (back′ : ℕ) → q ≡ c .q → Worked g q retiming back′ → (x < startLength (g .n) q retiming back′) ⊎ ((y < sum (g .n) (at q)) ⊎ (z < sum (g .n) (at q))) → ⊥
-        go q retiming back′ e w (inr (inl s)) = omega (arith, b .retimed .ready .total, ap (λ (o : List ℕ). sum (g .n) (at o)) e)
-        go q retiming back′ e w (inr (inr s)) = omega (arith, b .retimed .ready .total, ap (λ (o : List ℕ). sum (g .n) (at o)) e)
-        go q retiming back′ e w (inl s) =
-            omega (arith, b .adds, starts-are (b .retimed) (b .backs) (b .fires), sum-same (g .n) (λ v. back′ * at q v - at retiming v) (λ v. back * at (c .q) v - at (r .retiming) v) (λ v o. same v o))
-          where
-            w′ : Worked g (c .q) retiming back′
-            w′ = subst (λ (o : List ℕ). Worked g o retiming back′) e w
-
-            mine : Worked g (c .q) (r .retiming) back
-            mine = worked (b .retimed) (b .backs)
-
-            entry : (v : ℕ) → v < g .n → at retiming v ≡ at (r .retiming) v
-            entry v o = omega (arith, w′ .retimes .least (at (r .retiming)) (mine .retimes .serves) v o, mine .retimes .least (at retiming) (w′ .retimes .serves) v o)
-
-            same : (v : ℕ) → v < g .n → back′ * at q v - at retiming v ≡ back * at (c .q) v - at (r .retiming) v
-            same v o =
-                let n = back-once (netFor g (c .q)) (W (b .retimed)) (at retiming) (at (r .retiming)) back′ back entry (w′ .backs) (mine .backs) in
-                rw (n, e, entry v o) refl
+    room-passed a k l =
+        let e = b .retimed .ready .total in
+        roomy (b .retimed .ready .counts) (W (b .retimed)) (worked (b .retimed) (b .backs)) x y z (omega (arith, b .adds, starts-are (b .retimed) (b .backs) (b .fires))) (omega arith) (omega arith)

@@ -15,12 +15,13 @@ use Rattle.refusals.proofs.FirstLaws.{passed, none, all-passed}
 use Rattle.sheet.specs.declared.Sheet.{Sheet}
 use Rattle.sheet.specs.declared.Reading.{Reading}
 use Rattle.sheet.specs.declared.Written.{Written}
+use Rattle.sheet.specs.Limits.{CountsFit}
 use Rattle.sheet.specs.Format.{version, stations, queues, zeroField, stationOffset, queueOffset, target, queueStart, headerBytes, stationBytes, queueBytes, bytesOf, padded, queueSize, sheetOf}
 use Rattle.sheet.specs.Read.{HeaderFits, Laid, fieldRow, Reads}
 use Rattle.sheet.specs.Write.{Writes}
 use Rattle.sheet.specs.Fields.{filled}
 use Rattle.sheet.proofs.FormatLaws.{length-header, length-station, length-queue, length-stations, length-bytes, part-same, sheet-is}
-use Rattle.sheet.proofs.WriteLaws.{Writable, writable}
+use Rattle.sheet.proofs.WriteLaws.{writable}
 use Rattle.sheet.proofs.FieldLaws.{passed-same, filled-same}
 use Rattle.sheet.proofs.Unique.{read-unique}
 
@@ -115,26 +116,26 @@ module _ (f : Sheet) where
       (queue-back (f .consumed) _ 6 refl (omega arith) (λ e. refl) (λ e. refl))
       (queue-back (f .delay) _ 8 refl (omega arith) (λ e. refl) (λ e. refl))
 
-  reads-back : {room : ℕ} → Writable f room → Passed (fieldRow f) → Reads (bytesOf f) (record { number = 0; place = 0; sheet = filled f })
-  reads-back w clear =
+  -- and reading accepts them where the sheet is within limits
+  pub reads-back : f .version ≡ 1 → CountsFit (f .n) (f .m) → Passed (fieldRow f) → Reads (bytesOf f) (record { number = 0; place = 0; sheet = filled f })
+  reads-back known counts clear =
       let s = bytesOf f in
-      let counts = w .counts in
       let header : HeaderFits s = record { counts = omega (arith, counts, stations-back, queues-back); zero = zero-back } in
       let laid : Laid s =
       record {
         stations-at = station-offset-back;
         queues-at = omega (arith, queue-offset-back, stations-back);
-        ends = omega (arith, length-bytes f, stations-back, part-same (ap queueSize (version-back ∙ w .known)) queues-back);
+        ends = omega (arith, length-bytes f, stations-back, part-same (ap queueSize (version-back ∙ known)) queues-back);
       }
       in
       record {
         verdict =
             passed (λ p h. omega (arith, length-bytes f))
-            (passed (λ p h. h (version-back ∙ w .known))
+            (passed (λ p h. h (version-back ∙ known))
             (passed (λ p h. h header)
             (passed (λ p h. h laid)
-            (passed (rw (← sheet-back (w .known)) (passed-same (filled-same f) clear)) none))));
-        accepted = λ e. sheet-back (w .known);
+            (passed (rw (← sheet-back known) (passed-same (filled-same f) clear)) none))));
+        accepted = λ e. sheet-back known;
         refused = λ n. absurd (n refl);
       }
 
@@ -146,4 +147,4 @@ read-back f before after w p e r q =
     omega (arith, p .judged .accepted e, length-bytes f, part-same {m = f .m} (ap queueSize (ok .known)) refl)
     in
     let same : take (w .length) after ≡ bytesOf f = rw (p .accepted e) (take-at (bytesOf f) _ (w .length) (sym long)) in
-    read-unique (bytesOf f) r _ (rw same at q) (reads-back f ok (all-passed (p .judged .verdict) e 2 (omega arith)))
+    read-unique (bytesOf f) r _ (rw same at q) (reads-back f (ok .known) (ok .counts) (all-passed (p .judged .verdict) e 2 (omega arith)))

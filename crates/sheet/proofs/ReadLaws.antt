@@ -1,14 +1,15 @@
 -- The laws of reading.
 use Prim.Native.Nat.{ℕ, _+_, _-_, _≤_, _<_}
-use mathlib.Core.Path.{_≡_, refl, _∙_}
+use mathlib.Core.Path.{_≡_, refl, sym, _∙_}
 use mathlib.Core.List.{List, [], _∷_}
+use mathlib.Core.Logic.{⊎-elim}
 use native.Mathlib.Omega.{arith}
-use lib.ListN.{replicate}
+use lib.ListN.{length, replicate, List·getD-eq-default}
 use Rattle.lists.specs.Front.{at}
 use Rattle.lists.specs.Lowest.{LowestFailing}
-use Rattle.lists.proofs.FrontLaws.{front-rest}
+use Rattle.lists.proofs.FrontLaws.{at-front, front-rest}
 use Rattle.lists.proofs.StoreLaws.{at-zeros}
-use Rattle.lists.proofs.Order.{le-stable, eq-stable}
+use Rattle.lists.proofs.Order.{lt-or-ge, le-stable, eq-stable}
 use Rattle.refusals.specs.Table.{number}
 use Rattle.refusals.specs.First.{First}
 use Rattle.refusals.proofs.FirstLaws.{here, passed, none, extend, append, all-passed}
@@ -99,8 +100,14 @@ fits-stable h = record {
 pub accepted-queues : (s : List ℕ) (r : Reading) → Reads s r → r .number ≡ 0 → (e : ℕ) → e < r .sheet .m → SheetQueueFits (r .sheet) e
 accepted-queues s r q ok e h = let passed = all-passed (q .verdict) ok 4 (omega arith) e in fits-stable (λ x. (rw (← q .accepted ok) at passed) (h, x))
 
-padded-rest : (n : ℕ) (f : ℕ → ℕ) (size k : ℕ) → n ≤ k → at (padded size n f) k ≡ 0
+-- behind its entries a column is 0
+pub padded-rest : (n : ℕ) (f : ℕ → ℕ) (size k : ℕ) → n ≤ k → at (padded size n f) k ≡ 0
 padded-rest n f size k h = let e : k ≡ n + (k - n) = omega arith in rw e (front-rest n f (replicate size 0) (k - n) ∙ at-zeros size (n + (k - n)))
+
+-- and where it has all of a list's, it is that list
+pub padded-at : (l : List ℕ) (size k : ℕ) → at (padded size (length l) (at l)) k ≡ at l k
+padded-at l size k =
+    ⊎-elim (λ h. at-front (length l) (at l) (replicate size 0) k h) (λ h. padded-rest (length l) (at l) size k h ∙ sym (List·getD-eq-default l 0 {n = k} h)) (lt-or-ge k (length l))
 
 -- no delay stands behind the last queue
 pub accepted-rest : (s : List ℕ) (r : Reading) → Reads s r → r .number ≡ 0 → (e : ℕ) → r .sheet .m ≤ e → at (r .sheet .delay) e ≡ 0

@@ -1,0 +1,6 @@
+pub mod Checking
+pub mod Refusing
+pub mod Accepting
+pub mod WorkedExample
+pub mod OneStation
+pub mod Table

@@ -1,0 +1,70 @@
+-- The rows of one station.
+use Prim.Native.Nat.{ℕ, _≤_}
+use mathlib.Core.Path.{refl}
+use mathlib.Core.List.{List, [], _∷_}
+use native.Mathlib.Omega.{arith}
+use native.Mathlib.Decide.{ℕ-discrete, decLe, decLt}
+use lib.Dec.{lit≤, lit<}
+use Rattle.lists.specs.Front.{at, table, front}
+use Rattle.dataflow.specs.Lists.{RoundList}
+use Rattle.dataflow.specs.Refusals.{here}
+use Rattle.dataflow.specs.Samples.{Queue, queue, lone}
+use Rattle.dataflow.proofs.Below.{upto}
+use Rattle.dataflow.proofs.Computed.{computed-period, computed-times}
+use Rattle.dataflow.proofs.Decide.{by-yes, list-dec}
+use Rattle.dataflow.proofs.SheetLaws.{sheet-sound, sheet-dec}
+use Rattle.dataflow.proofs.SumTable.{latest, edge-dec}
+use Rattle.checks.specs.Check.{columnsOf}
+use Rattle.table.specs.Rows.{Met, stationColumn, acceptedAsGiven, refused}
+use Rattle.table.proofs.Checking.{readSheet, netWith, delaysWith, WithinLimits, Counted}
+use Rattle.table.proofs.Refusing.{counts-refused, stuck-refused, slow-refused}
+use Rattle.table.proofs.Accepting.{given-accepted}
+
+-- time 7 and no queue
+limits : (T : ℕ) → WithinLimits (lone 7 [] T)
+limits T = record { numbers = omega arith; queues = λ e h. absurd (omega arith); joined = upto _ 1 (tt, here) }
+
+counted : (T : ℕ) → Counted (lone 7 [] T) (1 ∷ [])
+unfolding front table sheet-dec ℕ-discrete decLe decLt
+counted T = record {
+  sound = sheet-sound (columnsOf (readSheet (lone 7 [] T))) (stationColumn (lone 7 [] T) (1 ∷ [])) (by-yes (sheet-dec (columnsOf (readSheet (lone 7 [] T))) (stationColumn (lone 7 [] T) (1 ∷ []))) tt);
+  least = λ x b. upto _ 1 (tt, b .positive 0 (lit< tt));
+  few = lit≤ tt;
+}
+
+round : (T : ℕ) → RoundList (netWith (lone 7 [] T) (1 ∷ [])) (delaysWith (lone 7 [] T) (1 ∷ [])) (0 ∷ [])
+unfolding front table list-dec ℕ-discrete decLe decLt
+round T = by-yes (list-dec (netWith (lone 7 [] T) (1 ∷ [])) (counted T .sound) _ _ _) tt
+
+pub lone-7 : Met (acceptedAsGiven (lone 7 [] 7) 7 (1 ∷ []) (0 ∷ []) (0 ∷ []))
+unfolding front table latest edge-dec ℕ-discrete decLe decLt
+lone-7 =
+    given-accepted (lone 7 [] 7) 7 _ _ _ (limits 7) (counted 7) (round 7) (computed-period (netWith (lone 7 [] 7) (1 ∷ [])) (counted 7 .sound) _ _ (round 7) (lit≤ tt)) (lit≤ tt)
+    (computed-times (netWith (lone 7 [] 7) (1 ∷ [])) (counted 7 .sound) _ _ (round 7) _ (upto _ 1 (tt, upto _ 1 (tt, refl)))) refl
+
+pub lone-6 : Met (refused (lone 7 [] 6) 9)
+unfolding front table
+lone-6 = slow-refused (lone 7 [] 6) (limits 6) (counted 6) _ (round 6) 0 (lit< tt) (lit< tt)
+
+-- time 1 and a self-queue with no tokens, of rates 1 and this one
+self-limits : (rate : ℕ) → 1 ≤ rate → rate ≤ 64 → WithinLimits (lone 1 (queue 0 0 1 rate 0 ∷ []) 1)
+self-limits rate low high = record { numbers = omega arith; queues = upto _ 1 (tt, omega arith); joined = upto _ 1 (tt, here) }
+
+self-counted : Counted (lone 1 (queue 0 0 1 1 0 ∷ []) 1) (1 ∷ [])
+unfolding front table sheet-dec ℕ-discrete decLe decLt
+self-counted = record {
+  sound = sheet-sound (columnsOf (readSheet (lone 1 (queue 0 0 1 1 0 ∷ []) 1))) (stationColumn (lone 1 (queue 0 0 1 1 0 ∷ []) 1) (1 ∷ []))
+      (by-yes (sheet-dec (columnsOf (readSheet (lone 1 (queue 0 0 1 1 0 ∷ []) 1))) (stationColumn (lone 1 (queue 0 0 1 1 0 ∷ []) 1) (1 ∷ []))) tt);
+  least = λ x b. upto _ 1 (tt, b .positive 0 (lit< tt));
+  few = lit≤ tt;
+}
+
+pub self-1 : Met (refused (lone 1 (queue 0 0 1 1 0 ∷ []) 1) 8)
+unfolding front table
+self-1 =
+    stuck-refused (lone 1 (queue 0 0 1 1 0 ∷ []) 1) (self-limits 1 (lit≤ tt) (lit≤ tt)) self-counted (λ v. 0)
+    (upto _ 1 (tt, λ h. record { queue = (0, lit< tt); to = refl; lacks = lit< tt })) 0 (lit< tt)
+
+pub self-2 : Met (refused (lone 1 (queue 0 0 1 2 0 ∷ []) 1) 7)
+unfolding front table
+self-2 = counts-refused (lone 1 (queue 0 0 1 2 0 ∷ []) 1) (self-limits 2 (lit≤ tt) (lit≤ tt)) (λ x b few. omega (arith, b .balanced (0, lit< tt), b .positive 0 (lit< tt)))

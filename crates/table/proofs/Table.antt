@@ -1,0 +1,9 @@
+-- The bench table: the planner's contract holds of each row.
+use mathlib.Core.List.{List·Memᴰ}
+use Rattle.dataflow.proofs.Below.{each-in}
+use Rattle.table.specs.Rows.{BenchRow, Met, benchTable}
+use Rattle.table.proofs.WorkedExample.{K-4-5, K-4-4, K-4-3, K-4-2, K-3-5, K-3-4, K-1-9}
+use Rattle.table.proofs.OneStation.{lone-7, lone-6, self-1, self-2}
+
+pub bench-table : (b : BenchRow) → List·Memᴰ b benchTable → Met b
+bench-table b m = each-in Met m (K-4-5, (K-4-4, (K-4-3, (K-4-2, (K-3-5, (K-3-4, (K-1-9, (lone-7, (lone-6, (self-1, (self-2, tt)))))))))))

@@ -1,0 +1,1 @@
+// The bench table as a theorem; no function.
