@@ -134,6 +134,14 @@ asPrinted = record {
   times = 0 ∷ 0 ∷ 0 ∷ [];
 }
 
+-- station 0 feeding four, the last of them at this rate
+abbrev pub fan : (last : ℕ) → columns.Sheet
+fan last = sheet (1 ∷ 1 ∷ 1 ∷ 1 ∷ 1 ∷ []) (queue 0 1 64 1 0 ∷ queue 0 2 64 1 0 ∷ queue 0 3 64 1 0 ∷ queue 0 4 last 1 0 ∷ []) 2
+
+-- station 0 fires, and then each of the others as often as it is fed
+abbrev pub fanRound : List ℕ
+fanRound = (0 ∷ []) ++ replicate 64 1 ++ replicate 64 2 ++ replicate 64 3 ++ replicate 63 4
+
 abbrev pub benchTable : List BenchRow
 benchTable =
     acceptedAsGiven (K 4 5) 5 (2 ∷ 1 ∷ []) (0 ∷ 0 ∷ 1 ∷ []) (0 ∷ 0 ∷ 3 ∷ [])
@@ -147,4 +155,6 @@ benchTable =
     ∷ refused (lone 7 [] 6) 9
     ∷ refused (lone 1 (queue 0 0 1 1 0 ∷ []) 1) 8
     ∷ refused (lone 1 (queue 0 0 1 2 0 ∷ []) 1) 7
+    ∷ acceptedAsGiven (fan 63) 2 (1 ∷ 64 ∷ 64 ∷ 64 ∷ 63 ∷ []) fanRound (0 ∷ replicate 255 1)
+    ∷ refused (fan 64) 7
     ∷ []
