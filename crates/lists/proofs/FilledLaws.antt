@@ -1,5 +1,5 @@
 -- The laws of a list that is filled from its first entry on.
-use Prim.Native.Nat.{ℕ, _+_, _≤_, _<_}
+use Prim.Native.Nat.{ℕ, _+_, _<_}
 use mathlib.Core.Path.{_≡_, sym, _∙_}
 use mathlib.Core.List.{List}
 use mathlib.Core.Logic.{⊎-elim}
@@ -7,7 +7,6 @@ use native.Mathlib.Decide.{ℕ-discrete}
 use native.Mathlib.Omega.{arith}
 use lib.ListN.{length, set, replicate}
 use lib.Seq.{ext-getD, getD-set-same, getD-set-other}
-use Rattle.lists.specs.Front.{at}
 use Rattle.lists.specs.Filled.{Filled}
 use Rattle.lists.proofs.Order.{lt-or-ge}
 use Rattle.lists.proofs.StoreLaws.{at-zeros}

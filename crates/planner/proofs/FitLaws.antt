@@ -1,6 +1,6 @@
 -- The sizes of an accepted plan's lists, from the planner's contract.
-use Prim.Native.Nat.{ℕ, _-_, _*_, _≤_, _<_}
-use mathlib.Core.Path.{_≡_, refl, sym, ap, _∙_}
+use Prim.Native.Nat.{ℕ, _-_, _*_, _<_}
+use mathlib.Core.Path.{_≡_, _∙_}
 use mathlib.Core.List.{List, _++_}
 use mathlib.Core.Logic.{inl, inr}
 use native.Mathlib.Omega.{arith}
@@ -9,7 +9,6 @@ use Rattle.lists.specs.Front.{at}
 use Rattle.lists.proofs.Order.{le-stable}
 use Rattle.refusals.specs.First.{Passed, nth}
 use Rattle.refusals.proofs.FirstLaws.{all-passed, front-passed}
-use Rattle.dataflow.specs.Counts.{sum}
 use Rattle.dataflow.proofs.SumLaws.{sum-same}
 use Rattle.sheet.specs.Format.{sheetOf}
 use Rattle.sheet.specs.Read.{readRows}

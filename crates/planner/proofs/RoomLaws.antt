@@ -2,16 +2,16 @@
 use Prim.Native.Nat.{ℕ, suc, _+_, _-_, _*_, _≤_, _<_}
 use mathlib.Core.Path.{_≡_, refl, subst}
 use mathlib.Core.List.{List, [], _++_}
-use mathlib.Core.Logic.{_⊎_, inl, inr, ⊎-elim}
+use mathlib.Core.Logic.{_⊎_, ⊎-elim}
 use native.Mathlib.Nat.{mul-le-mul}
 use native.Mathlib.Omega.{arith}
 use lib.ListN.{length}
 use Rattle.lists.specs.Front.{at}
 use Rattle.lists.proofs.Order.{le-stable}
 use Rattle.refusals.specs.Table.{number}
-use Rattle.refusals.specs.First.{Row, Passed, nth, First}
+use Rattle.refusals.specs.First.{Passed, nth, First}
 use Rattle.refusals.proofs.FirstLaws.{Given, refusal-given, front-passed}
-use Rattle.dataflow.specs.Net.{Net, Sound}
+use Rattle.dataflow.specs.Net.{Sound}
 use Rattle.dataflow.specs.Counts.{sum}
 use Rattle.dataflow.specs.Refusals.{countsRow}
 use Rattle.dataflow.specs.Retiming.{whole}
@@ -48,7 +48,7 @@ module _ (f : Sheet) (q : List ℕ) (W : Sound (netFor f q)) (some : 1 ≤ f .n)
       let low : 1 ≤ sum (f .n) (at q) = omega (arith, sum-above (f .n) (at q) 0 some, W .counts .positive 0 some) in
       let rounds = rounds-bound G W (delaysFor f q) (f .target) (x .2) low in
       let covers = w .backs .least (x .0) (λ v h.
-          omega (arith, w .retimes .least (x .1) (plan .serves) v h, search-bound G W (delaysFor f q) (f .target) (x .2 .searched) v)) in
+      omega (arith, w .retimes .least (x .1) (plan .serves) v h, search-bound G W (delaysFor f q) (f .target) (x .2 .searched) v)) in
       let most : back ≤ 255 = omega arith in
       omega (arith, sum-le (f .n) (λ v. back * at q v - at retiming v) (λ v. back * at q v) (λ v. omega arith), sum-times (f .n) back (at q), mul-le-mul most few)
 

@@ -1,15 +1,14 @@
 -- Refusals 9, 10 and 11, as rows of the table.
 use Prim.Native.Nat.{ℕ, _-_, _*_, _≤_, _<_}
-use mathlib.Core.Path.{_≡_, refl, sym, subst, ap, ap₂}
+use mathlib.Core.Path.{_≡_, refl, sym, subst, ap}
 use mathlib.Core.List.{List, [], _∷_}
 use mathlib.Core.Logic.{_⊎_, inl, inr, ⊎-elim}
 use native.Mathlib.Omega.{arith}
-use lib.ListN.{length}
 use lib.IntN.{ℤ}
 use Rattle.lists.specs.Front.{at}
 use Rattle.refusals.specs.Table.{no-retiming, list-stuck, room}
 use Rattle.refusals.specs.First.{Row, Passed, First}
-use Rattle.refusals.proofs.FirstLaws.{here-now, passed, none}
+use Rattle.refusals.proofs.FirstLaws.{here-now, none}
 use Rattle.dataflow.specs.Net.{Sound}
 use Rattle.dataflow.specs.Counts.{sum}
 use Rattle.dataflow.specs.Lists.{StartList, RoundList}
@@ -30,7 +29,7 @@ use Rattle.search.specs.declared.Found.{Found}
 use Rattle.search.specs.Found.{NoneServes}
 use Rattle.search.proofs.FoundLaws.{new-delays}
 use Rattle.planner.specs.Lists.{NoList}
-use Rattle.planner.specs.Making.{Retimed, Begun, HasRoom}
+use Rattle.planner.specs.Making.{Retimed, Begun}
 use Rattle.planner.specs.Plan.{retimingRow, listsRow, roomRow, Worked, startLength}
 use Rattle.planner.proofs.WorkLaws.{W, retimes, fires-round, worked, firings-are, starts-are}
 

@@ -1,6 +1,6 @@
 -- No second result and no second contents of the lent buffers meet the planner's contract.
 use Prim.Native.Nat.{ℕ, suc, _+_, _-_, _*_, _≤_, _<_}
-use mathlib.Core.Path.{_≡_, refl, sym, subst, ap, _∙_}
+use mathlib.Core.Path.{_≡_, sym, subst, ap, _∙_}
 use mathlib.Core.List.{List, _++_}
 use mathlib.Core.Logic.{⊎-elim}
 use native.Mathlib.Omega.{arith}
@@ -17,7 +17,7 @@ use Rattle.dataflow.specs.Sheet.{planOf}
 use Rattle.dataflow.proofs.PlanLaws.{SamePlan, plan-once}
 use Rattle.dataflow.proofs.SumLaws.{sum-place}
 use Rattle.sheet.specs.declared.Sheet.{Sheet}
-use Rattle.checks.specs.Check.{columnsOf, netFor, delaysFor, CountsOf}
+use Rattle.checks.specs.Check.{columnsOf, netFor, delaysFor}
 use Rattle.checks.proofs.CheckLaws.{counts-of-once, rows-sound}
 use Rattle.planner.specs.declared.Planning.{Planning}
 use Rattle.planner.specs.Plan.{Only, Planned, refusedBy, Plans}

@@ -1,5 +1,5 @@
 -- What a retiming that was found gives to the lists: everything is small enough, and the counts, the retiming and back are those of the rows.
-use Prim.Native.Nat.{ℕ, _+_, _-_, _*_, _≤_, _<_, _^_}
+use Prim.Native.Nat.{ℕ, _-_, _*_, _≤_, _<_}
 use mathlib.Core.Path.{_≡_, refl, sym, subst, ap}
 use mathlib.Core.List.{List}
 use mathlib.Core.Logic.{⊎-elim}
@@ -7,7 +7,7 @@ use native.Mathlib.Nat.{mul-le-mul}
 use native.Mathlib.Omega.{arith}
 use Rattle.lists.specs.Front.{at}
 use Rattle.lists.proofs.Order.{lt-or-ge}
-use Rattle.dataflow.specs.Net.{Net, Sound}
+use Rattle.dataflow.specs.Net.{Sound}
 use Rattle.dataflow.specs.Counts.{sum}
 use Rattle.dataflow.specs.Lists.{Back}
 use Rattle.dataflow.specs.Stuck.{RoundFires}
@@ -17,7 +17,7 @@ use Rattle.sheet.specs.declared.Sheet.{Sheet}
 use Rattle.chain.specs.Chain.{CountedChain}
 use Rattle.chain.proofs.ChainLaws.{sound}
 use Rattle.checks.specs.declared.Checked.{Checked}
-use Rattle.checks.specs.Check.{netFor, delaysFor, Ready}
+use Rattle.checks.specs.Check.{netFor, delaysFor}
 use Rattle.checks.proofs.CheckLaws.{ready-counted, ready-given}
 use Rattle.firing.proofs.PeriodLaws.{round-wanted}
 use Rattle.search.specs.declared.Found.{Found}

@@ -1,18 +1,18 @@
 -- The laws of a round cut in two: either part can be fired alone, and the second before the first.
-use mathlib.Core.Path.{_≡_, refl, sym, ap, _∙_}
-use mathlib.Core.List.{List, [], _∷_, _++_}
-use Prim.Native.Nat.{ℕ, suc, _+_, _-_, _*_, _≤_, _<_, max}
+use mathlib.Core.Path.{_≡_, ap, _∙_}
+use mathlib.Core.List.{List, _∷_, _++_}
+use Prim.Native.Nat.{ℕ, suc, _+_, _-_, _*_, _≤_, _<_}
 use native.Mathlib.Nat.{mul-le-mul-right, add-zero}
 use native.Mathlib.Omega.{arith}
 use native.Mathlib.Decide.{ℕ-discrete, decLe, decLt}
-use lib.ListN.{length, length-append}
+use lib.ListN.{length}
 use Rattle.dataflow.specs.Net.{Net, Sound}
 use Rattle.dataflow.specs.Runs.{State, whenever, initially, fire, after, Run, ended, fires}
 use Rattle.dataflow.proofs.ListFrom.{length-from}
 use Rattle.dataflow.proofs.RunLaws.{HoldsAt, holds-initially, holds-fire, holds, holds-length}
 use Rattle.dataflow.proofs.TakenLaws.{after-append, run-append, ready-counts, counts-ready}
 use Rattle.dataflow.proofs.RepeatLaws.{same-fill-run, same-fired}
-use Rattle.search.specs.Cut.{oneMore, whereBetween, between, noneFired}
+use Rattle.search.specs.Cut.{whereBetween, between, noneFired}
 
 -- F, but at least low and at most high
 pub record Clamped (low high F x : ℕ) : Type 0 where

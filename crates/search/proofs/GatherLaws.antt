@@ -1,12 +1,12 @@
 -- The laws of gathering a part of a round.
 use mathlib.Core.Path.{_≡_, refl, sym, ap, _∙_, fun-ext}
 use mathlib.Core.List.{List, [], _∷_, _++_, append-assoc, append-nil}
-use Prim.Native.Nat.{ℕ, zero, suc, _+_, _≤_, _<_}
+use Prim.Native.Nat.{ℕ, suc, _+_, _≤_, _<_}
 use native.Mathlib.Omega.{arith}
 use native.Mathlib.Numerals.{add-one}
 use native.Mathlib.Decide.{ℕ-discrete, decLe, decLt}
 use lib.ListN.{length, take, drop, set, replicate, length-set, length-append, length-take, drop-of-length-le}
-use lib.Seq.{drop-cons, drop-length, getD-take, getD-set-same, getD-set-other}
+use lib.Seq.{drop-cons, getD-take, getD-set-same, getD-set-other}
 use Rattle.lists.specs.Front.{at}
 use Rattle.lists.specs.Put.{put}
 use Rattle.lists.proofs.PutLaws.{put-nothing, put-one-more}

@@ -1,10 +1,10 @@
 -- The laws of a search in the making.
-use mathlib.Core.Path.{_≡_, refl, sym, ap, _∙_}
-use mathlib.Core.Bool.{true, false}
-use mathlib.Core.List.{List, _++_}
+use mathlib.Core.Path.{_≡_, ap}
+use mathlib.Core.Bool.{true}
+use mathlib.Core.List.{List}
 use mathlib.Core.Logic.{⊎-elim}
-use Prim.Native.Nat.{ℕ, suc, _+_, _-_, _*_, _≤_, _<_, _^_}
-use native.Mathlib.Nat.{mul-le-mul, mul-le-mul-left, mul-le-mul-right}
+use Prim.Native.Nat.{ℕ, _+_, _-_, _*_, _≤_, _<_, _^_}
+use native.Mathlib.Nat.{mul-le-mul}
 use native.Mathlib.Numerals.{add-one}
 use native.Mathlib.Omega.{arith}
 use lib.ListN.{length, take, replicate, length-take}
@@ -17,13 +17,11 @@ use Rattle.dataflow.specs.Counts.{sum}
 use Rattle.dataflow.specs.Paths.{Late}
 use Rattle.dataflow.specs.Runs.{initially, after, Run}
 use Rattle.dataflow.specs.Retiming.{Serves}
-use Rattle.dataflow.specs.Search.{HowMany, LateUnder, Searched, nothing, raise, SearchEnds}
+use Rattle.dataflow.specs.Search.{HowMany, Searched, nothing, raise, SearchEnds}
 use Rattle.dataflow.specs.Sheet.{Below}
-use Rattle.dataflow.specs.Stuck.{RoundFires}
 use Rattle.dataflow.proofs.EndLaws.{ends-at-plan, too-long}
 use Rattle.dataflow.proofs.LateLaws.{few-of, many-last, lates-of}
 use Rattle.dataflow.proofs.ListLaws.{run-length}
-use Rattle.dataflow.proofs.PathLaws.{path-end}
 use Rattle.dataflow.proofs.PlanLaws.{search-bound}
 use Rattle.dataflow.proofs.RaiseLaws.{raise-legal, raisedBy}
 use Rattle.dataflow.proofs.SumLaws.{sum-above, sum-none, sum-same}
@@ -34,10 +32,9 @@ use Rattle.firing.specs.Times.{Bases, Ordered, Tabled}
 use Rattle.firing.proofs.PeriodLaws.{period-is, late-is}
 use Rattle.chain.proofs.ChainLaws.{sound}
 use Rattle.firing.proofs.TableLaws.{here}
-use Rattle.search.specs.Cut.{between, noneFired, keeps, lateFirst, Cuttable, Reordered}
+use Rattle.search.specs.Cut.{keeps, lateFirst, Cuttable, Reordered}
 use Rattle.search.specs.Raise.{DelaysFit, NewDelays, Raised}
 use Rattle.search.specs.Found.{Retimes}
-use Rattle.search.specs.declared.Found.{Found}
 use Rattle.search.proofs.CutLaws.{turned-run, turned-whole}
 
 module _ (n m : ℕ) (source sink produced consumed delay time q : List ℕ) (total target : ℕ) where

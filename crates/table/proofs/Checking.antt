@@ -1,9 +1,8 @@
 -- A sheet that is written within limits passes checks 1 to 5, and with its counts and a round list checks 6 to 8.
 use Prim.Native.Nat.{ℕ, _≤_, _<_}
 use mathlib.Core.Path.{_≡_, refl, subst}
-use mathlib.Core.List.{List, [], _∷_, _++_}
-use native.Mathlib.Omega.{arith}
-use lib.ListN.{length, replicate, length-replicate}
+use mathlib.Core.List.{List, [], _∷_}
+use lib.ListN.{length, replicate}
 use Rattle.lists.specs.Front.{at}
 use Rattle.lists.proofs.FrontLaws.{length-front}
 use Rattle.refusals.specs.First.{Row, First}
@@ -15,7 +14,7 @@ use Rattle.dataflow.specs.Refusals.{Joined, apartRow, countsRow}
 use Rattle.dataflow.specs.Sheet as columns
 use Rattle.sheet.specs.declared.Sheet.{Sheet}
 use Rattle.sheet.specs.Fields.{filled}
-use Rattle.sheet.specs.Format.{bytesOf, sheetOf}
+use Rattle.sheet.specs.Format.{bytesOf}
 use Rattle.sheet.specs.Limits.{CountsFit, SheetQueueFits}
 use Rattle.sheet.specs.Read.{Reads, readRows}
 use Rattle.sheet.proofs.ReadBack.{sheet-back, reads-back}

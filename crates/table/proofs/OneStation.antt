@@ -1,14 +1,14 @@
 -- The rows of one station.
 use Prim.Native.Nat.{ℕ, _≤_}
 use mathlib.Core.Path.{refl}
-use mathlib.Core.List.{List, [], _∷_}
+use mathlib.Core.List.{[], _∷_}
 use native.Mathlib.Omega.{arith}
 use native.Mathlib.Decide.{ℕ-discrete, decLe, decLt}
 use lib.Dec.{lit≤, lit<}
-use Rattle.lists.specs.Front.{at, table, front}
+use Rattle.lists.specs.Front.{table, front}
 use Rattle.dataflow.specs.Lists.{RoundList}
 use Rattle.dataflow.specs.Refusals.{here}
-use Rattle.dataflow.specs.Samples.{Queue, queue, lone}
+use Rattle.dataflow.specs.Samples.{queue, lone}
 use Rattle.dataflow.proofs.Below.{upto}
 use Rattle.dataflow.proofs.Computed.{computed-period, computed-times}
 use Rattle.dataflow.proofs.Decide.{by-yes, list-dec}

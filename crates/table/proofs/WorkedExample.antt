@@ -1,7 +1,7 @@
 -- The rows of the worked example K(d,T).
 use Prim.Native.Nat.{ℕ, _+_, _≤_}
 use mathlib.Core.Path.{_≡_, refl}
-use mathlib.Core.List.{List, [], _∷_}
+use mathlib.Core.List.{[], _∷_}
 use native.Mathlib.Omega.{arith}
 use native.Mathlib.Decide.{ℕ-discrete, decLe, decLt}
 use lib.Dec.{lit≤, lit<}
@@ -25,7 +25,7 @@ use Rattle.checks.specs.Check.{columnsOf}
 use Rattle.table.specs.Rows.{Met, stationColumn, acceptedAsGiven, accepted, asPrinted, refused}
 use Rattle.table.proofs.Checking.{readSheet, netWith, delaysWith, WithinLimits, Counted}
 use Rattle.table.proofs.Refusing.{stuck-refused, retiming-refused, slow-refused}
-use Rattle.table.proofs.Accepting.{Shows, newDelays, plan-accepted, given-accepted}
+use Rattle.table.proofs.Accepting.{newDelays, plan-accepted, given-accepted}
 
 abbrev queue0 : Below 2
 queue0 = (0, lit< tt)

@@ -1,5 +1,4 @@
-use native.Mathlib.Omega.{arith}
-use Rattle.search.proofs.OrderLaws.{keeps-are, second-fits, first-fits, reordered}
+use Rattle.search.proofs.OrderLaws.{second-fits, first-fits, reordered}
 use Rattle.search.proofs.order.reorder.Statement.{statement}
 use Rattle.search.proofs.order.reorder.Tie as tie
 
