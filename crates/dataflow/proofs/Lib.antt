@@ -33,6 +33,7 @@ pub mod DispatchLaws
 pub mod CountLaws
 pub mod PlanLaws
 pub mod PrefixLaws
+pub mod InOrder
 pub mod LastLaws
 pub mod Computed
 pub mod PlanFacts

@@ -8,7 +8,7 @@ use lib.IntN.{ℤ}
 use Rattle.lists.specs.Front.{at}
 use Rattle.refusals.specs.Table.{no-retiming, list-stuck, room}
 use Rattle.refusals.specs.First.{Row, Passed, First}
-use Rattle.refusals.proofs.FirstLaws.{here-now, none}
+use Rattle.refusals.proofs.FirstLaws.{here-now}
 use Rattle.dataflow.specs.Net.{Sound}
 use Rattle.dataflow.specs.Counts.{sum}
 use Rattle.dataflow.specs.Lists.{StartList, RoundList}

@@ -1,6 +1,6 @@
 -- The plan of a sheet that is written within limits.
-use Prim.Native.Nat.{ℕ, _+_, _-_, _*_, _≤_, _<_}
-use mathlib.Core.Path.{_≡_, refl, sym, ap, _∙_, fun-ext}
+use Prim.Native.Nat.{ℕ, suc, _+_, _-_, _*_, _≤_, _<_}
+use mathlib.Core.Path.{_≡_, refl, sym, subst, ap, _∙_, fun-ext}
 use mathlib.Core.List.{List}
 use mathlib.Core.Logic.{⊎-elim}
 use native.Mathlib.Omega.{arith}
@@ -21,9 +21,12 @@ use Rattle.dataflow.specs.Room.{roomOf}
 use Rattle.dataflow.specs.Search.{Searched, nothing, SearchEnds}
 use Rattle.dataflow.specs.Sheet as columns
 use Rattle.dataflow.specs.Sheet.{Below, planOf}
-use Rattle.dataflow.specs.Times.{TimeTable, entry}
+use Rattle.dataflow.specs.Times.{finish, TimeTable, entry}
+use Rattle.dataflow.proofs.Below.{Upto, upto}
+use Rattle.dataflow.proofs.Computed.{sumAt, computed-period, computed-times}
 use Rattle.dataflow.proofs.EndLaws.{ends-at-plan}
 use Rattle.dataflow.proofs.ListLaws.{list-length, round-length}
+use Rattle.dataflow.proofs.MaxLaws.{maxTo}
 use Rattle.dataflow.proofs.PathLaws.{none-late-within, period-within}
 use Rattle.dataflow.proofs.PromiseLaws.{kept}
 use Rattle.dataflow.proofs.StuckLaws.{round-of-list}
@@ -167,3 +170,14 @@ given-accepted s period count round times limits c list is in-time table each =
       times = table;
       each-copy = each;
     })
+
+-- the same, where period and time table are computed from the round list
+pub computed-accepted : (s : columns.Sheet) (period : ℕ) (count round times : List ℕ) → WithinLimits s → (c : Counted s count) → (list : RoundList (netWith s count) (delaysWith s count) round)
+    → maxTo (s .stations) (λ v. sumAt (netWith s count) (c .sound) (delaysWith s count) round list v (at (stationColumn s count) v)) ≡ period → period ≤ s .target
+    → Upto (λ v. Upto (λ i. sumAt (netWith s count) (c .sound) (delaysWith s count) round list v (suc i) ≡ finish (netWith s count) (entry (at (stationColumn s count)) times) v (suc i)) (at (stationColumn s count) v)) (s .stations)
+    → length times ≡ length round → Met (acceptedAsGiven s period count round times)
+computed-accepted s period count round times limits c list is in-time ends each =
+    given-accepted s period count round times limits c list
+    (subst (λ (P : ℕ). Period (netWith s count) (delaysWith s count) P) is (computed-period (netWith s count) (c .sound) (delaysWith s count) round list (limits .numbers .some))) in-time
+    (computed-times (netWith s count) (c .sound) (delaysWith s count) round list (entry (at (stationColumn s count)) times)
+    (λ v h. upto _ (at (stationColumn s count) v) (upto _ (s .stations) ends v h))) each

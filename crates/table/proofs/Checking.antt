@@ -12,6 +12,8 @@ use Rattle.dataflow.specs.Counts.{sum}
 use Rattle.dataflow.specs.Lists.{RoundList}
 use Rattle.dataflow.specs.Refusals.{Joined, apartRow, countsRow}
 use Rattle.dataflow.specs.Sheet as columns
+use Rattle.dataflow.proofs.Decide.{Yes, by-yes}
+use Rattle.dataflow.proofs.SheetLaws.{sheet-sound, sheet-dec}
 use Rattle.sheet.specs.declared.Sheet.{Sheet}
 use Rattle.sheet.specs.Fields.{filled}
 use Rattle.sheet.specs.Format.{bytesOf}
@@ -20,7 +22,7 @@ use Rattle.sheet.specs.Read.{Reads, readRows}
 use Rattle.sheet.proofs.ReadBack.{sheet-back, reads-back}
 use Rattle.sheet.proofs.ReadLaws.{padded-rest}
 use Rattle.counts.proofs.JoinLaws.{joined-through}
-use Rattle.checks.specs.Check.{netFor, delaysFor, CountsOf, stuckRow, chainRows, checkRows}
+use Rattle.checks.specs.Check.{columnsOf, netFor, delaysFor, CountsOf, stuckRow, chainRows, checkRows}
 use Rattle.checks.proofs.CheckLaws.{round-passed}
 use Rattle.planner.specs.declared.Planning.{Planning}
 use Rattle.planner.specs.Plan.{retimingRow, listsRow, roomRow, refusedBy, Answers, Plans}
@@ -37,6 +39,10 @@ netWith s count = netFor (readSheet s) (stationColumn s count)
 
 abbrev pub delaysWith : (s : columns.Sheet) (count : List ℕ) → netWith s count .Queue → ℕ
 delaysWith s count = delaysFor (readSheet s) (stationColumn s count)
+
+-- whether a net is sound can be computed
+pub sound-by : (s : columns.Sheet) (count : List ℕ) → Yes (sheet-dec (columnsOf (readSheet s)) (stationColumn s count)) → Sound (netWith s count)
+sound-by s count y = sheet-sound (columnsOf (readSheet s)) (stationColumn s count) (by-yes (sheet-dec (columnsOf (readSheet s)) (stationColumn s count)) y)
 
 -- n, m and each queue are within limits, and a chain of queues joins station 0 to each station
 pub record WithinLimits (s : columns.Sheet) : Type 0 where

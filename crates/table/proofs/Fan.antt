@@ -18,15 +18,13 @@ use Rattle.dataflow.specs.Sheet.{Below}
 use Rattle.dataflow.specs.Times.{finish, TimeTable, entry}
 use Rattle.dataflow.proofs.Below.{upto, each-below}
 use Rattle.dataflow.proofs.CopyLaws.{copy-station, inside, inside-of}
-use Rattle.dataflow.proofs.Decide.{by-yes}
-use Rattle.dataflow.proofs.SheetLaws.{sheet-sound, sheet-dec}
+use Rattle.dataflow.proofs.InOrder.{in-order}
+use Rattle.dataflow.proofs.SheetLaws.{sheet-dec}
 use Rattle.dataflow.proofs.SumLaws.{sum-before}
-use Rattle.checks.specs.Check.{columnsOf}
 use Rattle.table.specs.Rows.{Met, stationColumn, acceptedAsGiven, refused, fan, fanRound}
-use Rattle.table.proofs.Checking.{readSheet, netWith, delaysWith, WithinLimits, Counted}
+use Rattle.table.proofs.Checking.{netWith, delaysWith, sound-by, WithinLimits, Counted}
 use Rattle.table.proofs.Refusing.{counts-refused}
 use Rattle.table.proofs.Accepting.{given-accepted}
-use Rattle.table.proofs.InOrder.{in-order}
 
 abbrev queue0 : Below 4
 queue0 = (0, lit< tt)
@@ -65,7 +63,7 @@ D = delaysWith (fan 63) count
 counted : Counted (fan 63) count
 unfolding front table sheet-dec ℕ-discrete decLe decLt
 counted = record {
-  sound = sheet-sound (columnsOf (readSheet (fan 63))) (stationColumn (fan 63) count) (by-yes (sheet-dec (columnsOf (readSheet (fan 63))) (stationColumn (fan 63) count)) tt);
+  sound = sound-by (fan 63) count tt;
   least = λ x b.
       let some = b .positive 0 (lit< tt) in
       upto _ 5 (((((tt, some), omega (arith, b .balanced queue0, some)), omega (arith, b .balanced queue1, some)), omega (arith, b .balanced queue2, some)), omega (arith, b .balanced queue3, some));

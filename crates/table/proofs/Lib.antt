@@ -3,6 +3,5 @@ pub mod Refusing
 pub mod Accepting
 pub mod WorkedExample
 pub mod OneStation
-pub mod InOrder
 pub mod Fan
 pub mod Table

@@ -10,15 +10,13 @@ use Rattle.dataflow.specs.Lists.{RoundList}
 use Rattle.dataflow.specs.Refusals.{here}
 use Rattle.dataflow.specs.Samples.{queue, lone}
 use Rattle.dataflow.proofs.Below.{upto}
-use Rattle.dataflow.proofs.Computed.{computed-period, computed-times}
 use Rattle.dataflow.proofs.Decide.{by-yes, list-dec}
-use Rattle.dataflow.proofs.SheetLaws.{sheet-sound, sheet-dec}
+use Rattle.dataflow.proofs.SheetLaws.{sheet-dec}
 use Rattle.dataflow.proofs.SumTable.{latest, edge-dec}
-use Rattle.checks.specs.Check.{columnsOf}
-use Rattle.table.specs.Rows.{Met, stationColumn, acceptedAsGiven, refused}
-use Rattle.table.proofs.Checking.{readSheet, netWith, delaysWith, WithinLimits, Counted}
+use Rattle.table.specs.Rows.{Met, acceptedAsGiven, refused}
+use Rattle.table.proofs.Checking.{netWith, delaysWith, sound-by, WithinLimits, Counted}
 use Rattle.table.proofs.Refusing.{counts-refused, stuck-refused, slow-refused}
-use Rattle.table.proofs.Accepting.{given-accepted}
+use Rattle.table.proofs.Accepting.{computed-accepted}
 
 -- time 7 and no queue
 limits : (T : ℕ) → WithinLimits (lone 7 [] T)
@@ -27,7 +25,7 @@ limits T = record { numbers = omega arith; queues = λ e h. absurd (omega arith)
 counted : (T : ℕ) → Counted (lone 7 [] T) (1 ∷ [])
 unfolding front table sheet-dec ℕ-discrete decLe decLt
 counted T = record {
-  sound = sheet-sound (columnsOf (readSheet (lone 7 [] T))) (stationColumn (lone 7 [] T) (1 ∷ [])) (by-yes (sheet-dec (columnsOf (readSheet (lone 7 [] T))) (stationColumn (lone 7 [] T) (1 ∷ []))) tt);
+  sound = sound-by (lone 7 [] T) (1 ∷ []) tt;
   least = λ x b. upto _ 1 (tt, b .positive 0 (lit< tt));
   few = lit≤ tt;
 }
@@ -38,9 +36,7 @@ round T = by-yes (list-dec (netWith (lone 7 [] T) (1 ∷ [])) (counted T .sound)
 
 pub lone-7 : Met (acceptedAsGiven (lone 7 [] 7) 7 (1 ∷ []) (0 ∷ []) (0 ∷ []))
 unfolding front table latest edge-dec ℕ-discrete decLe decLt
-lone-7 =
-    given-accepted (lone 7 [] 7) 7 _ _ _ (limits 7) (counted 7) (round 7) (computed-period (netWith (lone 7 [] 7) (1 ∷ [])) (counted 7 .sound) _ _ (round 7) (lit≤ tt)) (lit≤ tt)
-    (computed-times (netWith (lone 7 [] 7) (1 ∷ [])) (counted 7 .sound) _ _ (round 7) _ (upto _ 1 (tt, upto _ 1 (tt, refl)))) refl
+lone-7 = computed-accepted (lone 7 [] 7) 7 (1 ∷ []) (0 ∷ []) (0 ∷ []) (limits 7) (counted 7) (round 7) refl (lit≤ tt) (tt, (tt, refl)) refl
 
 pub lone-6 : Met (refused (lone 7 [] 6) 9)
 unfolding front table
@@ -53,8 +49,7 @@ self-limits rate low high = record { numbers = omega arith; queues = upto _ 1 (t
 self-counted : Counted (lone 1 (queue 0 0 1 1 0 ∷ []) 1) (1 ∷ [])
 unfolding front table sheet-dec ℕ-discrete decLe decLt
 self-counted = record {
-  sound = sheet-sound (columnsOf (readSheet (lone 1 (queue 0 0 1 1 0 ∷ []) 1))) (stationColumn (lone 1 (queue 0 0 1 1 0 ∷ []) 1) (1 ∷ []))
-      (by-yes (sheet-dec (columnsOf (readSheet (lone 1 (queue 0 0 1 1 0 ∷ []) 1))) (stationColumn (lone 1 (queue 0 0 1 1 0 ∷ []) 1) (1 ∷ []))) tt);
+  sound = sound-by (lone 1 (queue 0 0 1 1 0 ∷ []) 1) (1 ∷ []) tt;
   least = λ x b. upto _ 1 (tt, b .positive 0 (lit< tt));
   few = lit≤ tt;
 }

@@ -17,15 +17,14 @@ use Rattle.dataflow.proofs.Below.{Upto, upto, each-below}
 use Rattle.dataflow.proofs.Computed.{computed-period, computed-lates, computed-times, lateCount}
 use Rattle.dataflow.proofs.Decide.{by-yes, list-dec}
 use Rattle.dataflow.proofs.EndLaws.{too-long}
-use Rattle.dataflow.proofs.SheetLaws.{sheet-sound, sheet-dec}
+use Rattle.dataflow.proofs.SheetLaws.{sheet-dec}
 use Rattle.dataflow.proofs.StuckLaws.{round-of-list}
 use Rattle.dataflow.proofs.SumTable.{latest, edge-dec}
 use Rattle.sheet.proofs.ReadLaws.{padded-at}
-use Rattle.checks.specs.Check.{columnsOf}
-use Rattle.table.specs.Rows.{Met, stationColumn, acceptedAsGiven, accepted, asPrinted, refused}
-use Rattle.table.proofs.Checking.{readSheet, netWith, delaysWith, WithinLimits, Counted}
+use Rattle.table.specs.Rows.{Met, acceptedAsGiven, accepted, asPrinted, refused}
+use Rattle.table.proofs.Checking.{netWith, delaysWith, sound-by, WithinLimits, Counted}
 use Rattle.table.proofs.Refusing.{stuck-refused, retiming-refused, slow-refused}
-use Rattle.table.proofs.Accepting.{newDelays, plan-accepted, given-accepted}
+use Rattle.table.proofs.Accepting.{newDelays, plan-accepted, computed-accepted}
 
 abbrev queue0 : Below 2
 queue0 = (0, lit< tt)
@@ -50,7 +49,7 @@ delays d T = delaysWith (K d T) (2 ∷ 1 ∷ [])
 counted : (d T : ℕ) → Counted (K d T) (2 ∷ 1 ∷ [])
 unfolding front table sheet-dec ℕ-discrete decLe decLt
 counted d T = record {
-  sound = sheet-sound (columnsOf (readSheet (K d T))) (stationColumn (K d T) (2 ∷ 1 ∷ [])) (by-yes (sheet-dec (columnsOf (readSheet (K d T))) (stationColumn (K d T) (2 ∷ 1 ∷ []))) tt);
+  sound = sound-by (K d T) (2 ∷ 1 ∷ []) tt;
   least = λ x b. upto _ 2 ((tt, omega (arith, b .balanced queue0, b .positive 1 (lit< tt))), b .positive 1 (lit< tt));
   few = lit≤ tt;
 }
@@ -67,17 +66,11 @@ round-3 T = by-yes (list-dec (G 3 T) (counted 3 T .sound) _ _ _) tt
 -- in time by its own delays
 pub K-4-5 : Met (acceptedAsGiven (K 4 5) 5 (2 ∷ 1 ∷ []) (0 ∷ 0 ∷ 1 ∷ []) (0 ∷ 0 ∷ 3 ∷ []))
 unfolding front table latest edge-dec ℕ-discrete decLe decLt
-K-4-5 =
-    given-accepted (K 4 5) 5 _ _ _ (limits 4 5 (lit≤ tt)) (counted 4 5) (round-4 5)
-    (computed-period (G 4 5) (counted 4 5 .sound) _ _ (round-4 5) (lit≤ tt)) (lit≤ tt)
-    (computed-times (G 4 5) (counted 4 5 .sound) _ _ (round-4 5) _ (upto _ 2 ((tt, upto _ 2 ((tt, refl), refl)), upto _ 1 (tt, refl)))) refl
+K-4-5 = computed-accepted (K 4 5) 5 (2 ∷ 1 ∷ []) (0 ∷ 0 ∷ 1 ∷ []) (0 ∷ 0 ∷ 3 ∷ []) (limits 4 5 (lit≤ tt)) (counted 4 5) (round-4 5) refl (lit≤ tt) ((tt, ((tt, refl), refl)), (tt, refl)) refl
 
 pub K-3-5 : Met (acceptedAsGiven (K 3 5) 5 (2 ∷ 1 ∷ []) (0 ∷ 0 ∷ 1 ∷ []) (0 ∷ 0 ∷ 3 ∷ []))
 unfolding front table latest edge-dec ℕ-discrete decLe decLt
-K-3-5 =
-    given-accepted (K 3 5) 5 _ _ _ (limits 3 5 (lit≤ tt)) (counted 3 5) (round-3 5)
-    (computed-period (G 3 5) (counted 3 5 .sound) _ _ (round-3 5) (lit≤ tt)) (lit≤ tt)
-    (computed-times (G 3 5) (counted 3 5 .sound) _ _ (round-3 5) _ (upto _ 2 ((tt, upto _ 2 ((tt, refl), refl)), upto _ 1 (tt, refl)))) refl
+K-3-5 = computed-accepted (K 3 5) 5 (2 ∷ 1 ∷ []) (0 ∷ 0 ∷ 1 ∷ []) (0 ∷ 0 ∷ 3 ∷ []) (limits 3 5 (lit≤ tt)) (counted 3 5) (round-3 5) refl (lit≤ tt) ((tt, ((tt, refl), refl)), (tt, refl)) refl
 
 -- station 0 alone takes longer than 2
 pub K-4-2 : Met (refused (K 4 2) 9)
@@ -138,6 +131,7 @@ first v = at (0 ∷ 1 ∷ []) v
 abbrev second : ℕ → ℕ
 second v = first v + at (1 ∷ 0 ∷ []) v
 
+-- the round lists of the retimings that it comes through
 from-nothing : RoundList (G 3 4) (retimed (G 3 4) (delays 3 4) (whole (λ v. 0))) (0 ∷ 0 ∷ 1 ∷ [])
 unfolding front table list-dec ℕ-discrete decLe decLt
 from-nothing = by-yes (list-dec (G 3 4) (counted 3 4 .sound) _ _ _) tt
