@@ -38,25 +38,25 @@ use Rattle.chain.specs.Chain.{delaysOf}
 use Rattle.checks.specs.Check.{columnsOf}
 use Rattle.planner.specs.Plan.{startLength, Worked, Only, Planned}
 use Rattle.planner.proofs.RowLaws.{serving, listing, roomy}
-use Rattle.table.specs.Rows.{Met, Printed, stationColumn, queueColumn, answer, accepted, asGiven, acceptedAsGiven}
+use Rattle.table.specs.Rows.{Met, Printed, stationEntries, queueEntries, answer, accepted, asGiven, acceptedAsGiven}
 use Rattle.table.proofs.Checking.{readSheet, netWith, delaysWith, WithinLimits, Counted, chain-passed, counts-of, fires-passed}
 
 -- the new delays that a plan prints
 abbrev pub newDelays : (s : columns.Sheet) (p : Printed) → Below (s .queues) → ℕ
-newDelays s p = delaysOf (s .queues) (queueColumn s (p .delay))
+newDelays s p = delaysOf (s .queues) (queueEntries s (p .delay))
 
 -- each number and list that a plan prints is the one that the paper defines
 pub record Shows (s : columns.Sheet) (p : Printed) : Type 0 where
-  pub searched : Searched (netWith s (p .count)) (delaysWith s (p .count)) (s .target) (p .rounds) (at (stationColumn s (p .retime)))
-  pub delays : (e : Below (s .queues)) → newDelay (netWith s (p .count)) (delaysWith s (p .count)) (whole (at (stationColumn s (p .retime)))) e ≡ pos (newDelays s p e)
+  pub searched : Searched (netWith s (p .count)) (delaysWith s (p .count)) (s .target) (p .rounds) (at (stationEntries s (p .retime)))
+  pub delays : (e : Below (s .queues)) → newDelay (netWith s (p .count)) (delaysWith s (p .count)) (whole (at (stationEntries s (p .retime)))) e ≡ pos (newDelays s p e)
   pub period : Period (netWith s (p .count)) (newDelays s p) (p .period)
   pub in-time : p .period ≤ s .target
-  pub back : Back (netWith s (p .count)) (at (stationColumn s (p .retime))) (p .back)
-  pub room : (e : Below (s .queues)) → at (queueColumn s (p .room)) (e .0) ≡ roomOf (delaysWith s (p .count) e) (newDelays s p e)
-  pub firings : (v : ℕ) → v < s .stations → at (stationColumn s (p .firings)) v + at (stationColumn s (p .retime)) v ≡ p .back * at (stationColumn s (p .count)) v
-  pub start : StartList (netWith s (p .count)) (delaysWith s (p .count)) (at (stationColumn s (p .retime))) (p .back) (p .start)
+  pub back : Back (netWith s (p .count)) (at (stationEntries s (p .retime))) (p .back)
+  pub room : (e : Below (s .queues)) → at (queueEntries s (p .room)) (e .0) ≡ roomOf (delaysWith s (p .count) e) (newDelays s p e)
+  pub firings : (v : ℕ) → v < s .stations → at (stationEntries s (p .firings)) v + at (stationEntries s (p .retime)) v ≡ p .back * at (stationEntries s (p .count)) v
+  pub start : StartList (netWith s (p .count)) (delaysWith s (p .count)) (at (stationEntries s (p .retime))) (p .back) (p .start)
   pub round : RoundList (netWith s (p .count)) (newDelays s p) (p .round)
-  pub times : TimeTable (netWith s (p .count)) (newDelays s p) (entry (at (stationColumn s (p .count))) (p .times))
+  pub times : TimeTable (netWith s (p .count)) (newDelays s p) (entry (at (stationEntries s (p .count))) (p .times))
   pub each-copy : length (p .times) ≡ length (p .round)
 
 -- a buffer that the list fills
@@ -71,13 +71,13 @@ module _ (s : columns.Sheet) (p : Printed) (limits : WithinLimits s) (c : Counte
   f = readSheet s
 
   abbrev q : List ℕ
-  q = stationColumn s (p .count)
+  q = stationEntries s (p .count)
 
   abbrev retiming : List ℕ
-  retiming = stationColumn s (p .retime)
+  retiming = stationEntries s (p .retime)
 
   abbrev shown : Plan (netWith s (p .count))
-  shown = planOf (columnsOf f) q (p .period) (p .rounds) (p .back) retiming (queueColumn s (p .delay)) (queueColumn s (p .room)) (p .start) (p .round) (p .times)
+  shown = planOf (columnsOf f) q (p .period) (p .rounds) (p .back) retiming (queueEntries s (p .delay)) (queueEntries s (p .room)) (p .start) (p .round) (p .times)
 
   ends : SearchEnds (netWith s (p .count)) (delaysWith s (p .count)) (s .target) (p .rounds) (at retiming)
   ends = record {
@@ -115,7 +115,7 @@ module _ (s : columns.Sheet) (p : Printed) (limits : WithinLimits s) (c : Counte
     counts = counts-of s limits c;
     total = total-is;
     firings = record { is = h .firings; rest = padded-rest (s .stations) (at (p .firings)) 32 };
-    starts = starts-are ∙ sum-same (s .stations) (λ v. p .back * at q v - at retiming v) (at (stationColumn s (p .firings))) (λ v k. omega (arith, h .firings v k));
+    starts = starts-are ∙ sum-same (s .stations) (λ v. p .back * at q v - at retiming v) (at (stationEntries s (p .firings))) (λ v k. omega (arith, h .firings v k));
     promise =
         rw (take-length (p .start), take-length (p .round))
         (kept (netWith s (p .count)) (c .sound) (delaysWith s (p .count)) (s .target) shown holds);
@@ -144,19 +144,19 @@ module _ (s : columns.Sheet) (p : Printed) (limits : WithinLimits s) (c : Counte
       })
 
 -- a column of nothing but 0
-no-entry : (s : columns.Sheet) (v : ℕ) → at (stationColumn s (replicate (s .stations) 0)) v ≡ 0
+no-entry : (s : columns.Sheet) (v : ℕ) → at (stationEntries s (replicate (s .stations) 0)) v ≡ 0
 no-entry s v =
     ⊎-elim (λ h. at-front (s .stations) (at (replicate (s .stations) 0)) (replicate 32 0) v h ∙ at-zeros (s .stations) v) (padded-rest (s .stations) (at (replicate (s .stations) 0)) 32 v) (lt-or-ge v (s .stations))
 
 -- a sheet that is in time as it is
 pub given-accepted : (s : columns.Sheet) (period : ℕ) (count round times : List ℕ) → WithinLimits s → Counted s count
     → RoundList (netWith s count) (delaysWith s count) round → Period (netWith s count) (delaysWith s count) period → period ≤ s .target
-    → TimeTable (netWith s count) (delaysWith s count) (entry (at (stationColumn s count)) times) → length times ≡ length round
+    → TimeTable (netWith s count) (delaysWith s count) (entry (at (stationEntries s count)) times) → length times ≡ length round
     → Met (acceptedAsGiven s period count round times)
 given-accepted s period count round times limits c list is in-time table each =
     plan-accepted s (asGiven s period count round times) limits c round list (record {
       searched = nothing (no-entry s);
-      delays = whole-retimed (netWith s count) (delaysWith s count) (at (stationColumn s (replicate (s .stations) 0))) (delaysWith s count) (λ e.
+      delays = whole-retimed (netWith s count) (delaysWith s count) (at (stationEntries s (replicate (s .stations) 0))) (delaysWith s count) (λ e.
           let a = ap (λ (x : ℕ). netWith s count .produced e * x) (no-entry s (netWith s count .source e)) in
           let b = ap (λ (x : ℕ). netWith s count .consumed e * x) (no-entry s (netWith s count .sink e)) in
           omega arith);
@@ -173,11 +173,11 @@ given-accepted s period count round times limits c list is in-time table each =
 
 -- the same, where period and time table are computed from the round list
 pub computed-accepted : (s : columns.Sheet) (period : ℕ) (count round times : List ℕ) → WithinLimits s → (c : Counted s count) → (list : RoundList (netWith s count) (delaysWith s count) round)
-    → maxTo (s .stations) (λ v. sumAt (netWith s count) (c .sound) (delaysWith s count) round list v (at (stationColumn s count) v)) ≡ period → period ≤ s .target
-    → Upto (λ v. Upto (λ i. sumAt (netWith s count) (c .sound) (delaysWith s count) round list v (suc i) ≡ finish (netWith s count) (entry (at (stationColumn s count)) times) v (suc i)) (at (stationColumn s count) v)) (s .stations)
+    → maxTo (s .stations) (λ v. sumAt (netWith s count) (c .sound) (delaysWith s count) round list v (at (stationEntries s count) v)) ≡ period → period ≤ s .target
+    → Upto (λ v. Upto (λ i. sumAt (netWith s count) (c .sound) (delaysWith s count) round list v (suc i) ≡ finish (netWith s count) (entry (at (stationEntries s count)) times) v (suc i)) (at (stationEntries s count) v)) (s .stations)
     → length times ≡ length round → Met (acceptedAsGiven s period count round times)
 computed-accepted s period count round times limits c list is in-time ends each =
     given-accepted s period count round times limits c list
     (subst (λ (P : ℕ). Period (netWith s count) (delaysWith s count) P) is (computed-period (netWith s count) (c .sound) (delaysWith s count) round list (limits .numbers .some))) in-time
-    (computed-times (netWith s count) (c .sound) (delaysWith s count) round list (entry (at (stationColumn s count)) times)
-    (λ v h. upto _ (at (stationColumn s count) v) (upto _ (s .stations) ends v h))) each
+    (computed-times (netWith s count) (c .sound) (delaysWith s count) round list (entry (at (stationEntries s count)) times)
+    (λ v h. upto _ (at (stationEntries s count) v) (upto _ (s .stations) ends v h))) each

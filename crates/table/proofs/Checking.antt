@@ -27,7 +27,7 @@ use Rattle.checks.proofs.CheckLaws.{round-passed}
 use Rattle.planner.specs.declared.Planning.{Planning}
 use Rattle.planner.specs.Plan.{retimingRow, listsRow, roomRow, refusedBy, Answers, Plans}
 use Rattle.planner.proofs.AnswerLaws.{answer-refused}
-use Rattle.table.specs.Rows.{written, stationColumn}
+use Rattle.table.specs.Rows.{written, stationEntries}
 
 -- the sheet that is read from the bytes of s
 abbrev pub readSheet : columns.Sheet → Sheet
@@ -35,14 +35,14 @@ readSheet s = filled (written s)
 
 -- its net and its delays, with these counts
 abbrev pub netWith : (s : columns.Sheet) (count : List ℕ) → Net
-netWith s count = netFor (readSheet s) (stationColumn s count)
+netWith s count = netFor (readSheet s) (stationEntries s count)
 
 abbrev pub delaysWith : (s : columns.Sheet) (count : List ℕ) → netWith s count .Queue → ℕ
-delaysWith s count = delaysFor (readSheet s) (stationColumn s count)
+delaysWith s count = delaysFor (readSheet s) (stationEntries s count)
 
 -- whether a net is sound can be computed
-pub sound-by : (s : columns.Sheet) (count : List ℕ) → Yes (sheet-dec (columnsOf (readSheet s)) (stationColumn s count)) → Sound (netWith s count)
-sound-by s count y = sheet-sound (columnsOf (readSheet s)) (stationColumn s count) (by-yes (sheet-dec (columnsOf (readSheet s)) (stationColumn s count)) y)
+pub sound-by : (s : columns.Sheet) (count : List ℕ) → Yes (sheet-dec (columnsOf (readSheet s)) (stationEntries s count)) → Sound (netWith s count)
+sound-by s count y = sheet-sound (columnsOf (readSheet s)) (stationEntries s count) (by-yes (sheet-dec (columnsOf (readSheet s)) (stationEntries s count)) y)
 
 -- n, m and each queue are within limits, and a chain of queues joins station 0 to each station
 pub record WithinLimits (s : columns.Sheet) : Type 0 where
@@ -53,8 +53,8 @@ pub record WithinLimits (s : columns.Sheet) : Type 0 where
 -- these are the counts, at most 256 in all
 pub record Counted (s : columns.Sheet) (count : List ℕ) : Type 0 where
   pub sound : Sound (netWith s count)
-  pub least : (x : ℕ → ℕ) → Balances (netWith s count) x → (v : ℕ) → v < s .stations → at (stationColumn s count) v ≤ x v
-  pub few : sum (s .stations) (at (stationColumn s count)) ≤ 256
+  pub least : (x : ℕ → ℕ) → Balances (netWith s count) x → (v : ℕ) → v < s .stations → at (stationEntries s count) v ≤ x v
+  pub few : sum (s .stations) (at (stationEntries s count)) ≤ 256
 
 module _ (s : columns.Sheet) (limits : WithinLimits s) where
   reads : Reads (bytesOf (written s)) (record { number = 0; place = 0; sheet = readSheet s })
@@ -85,7 +85,7 @@ module _ (s : columns.Sheet) (limits : WithinLimits s) where
   apart-passed v = passed (λ place a. a (λ u w h k. joined-through (netFor (readSheet s) []) (limits .joined u h) (limits .joined w k))) v
 
   module _ {count : List ℕ} (c : Counted s count) where
-    pub counts-of : CountsOf (readSheet s) (stationColumn s count)
+    pub counts-of : CountsOf (readSheet s) (stationEntries s count)
     counts-of = record {
       entries = length-front (s .stations) (at count) (replicate 32 0) (limits .numbers .stations);
       counts = record { balances = c .sound .counts; least = c .least };
@@ -95,7 +95,7 @@ module _ (s : columns.Sheet) (limits : WithinLimits s) where
     pub counts-passed : {rows : List Row} {number place : ℕ} → First rows number place → First (apartRow (netFor (readSheet s) []) ∷ countsRow (netFor (readSheet s) []) ∷ rows) number place
     counts-passed v =
         apart-passed
-        (passed (λ place a. a (at (stationColumn s count)) (record { positive = c .sound .counts .positive; balanced = c .sound .counts .balanced }) (c .few)) v)
+        (passed (λ place a. a (at (stationEntries s count)) (record { positive = c .sound .counts .positive; balanced = c .sound .counts .balanced }) (c .few)) v)
 
     pub fires-passed : (l : List ℕ) → RoundList (netWith s count) (delaysWith s count) l → First (chainRows (readSheet s)) 0 0
     fires-passed l round = counts-passed (passed {r = stuckRow (readSheet s)} (round-passed (readSheet s) counts-of (c .sound) l round) none)

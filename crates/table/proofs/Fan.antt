@@ -21,7 +21,7 @@ use Rattle.dataflow.proofs.CopyLaws.{copy-station, inside, inside-of}
 use Rattle.dataflow.proofs.InOrder.{in-order}
 use Rattle.dataflow.proofs.SheetLaws.{sheet-dec}
 use Rattle.dataflow.proofs.SumLaws.{sum-before}
-use Rattle.table.specs.Rows.{Met, stationColumn, acceptedAsGiven, refused, fan, fanRound}
+use Rattle.table.specs.Rows.{Met, stationEntries, acceptedAsGiven, refused, fan, fanRound}
 use Rattle.table.proofs.Checking.{netWith, delaysWith, sound-by, WithinLimits, Counted}
 use Rattle.table.proofs.Refusing.{counts-refused}
 use Rattle.table.proofs.Accepting.{given-accepted}
@@ -46,7 +46,7 @@ limits last low high = record {
   joined = upto _ 5 (((((tt, here), along queue0 here), along queue1 here), along queue2 here), along queue3 here);
 }
 
--- with 64 four times, the counts would be 257
+-- with 64 four times the sum of the counts would be 257
 pub fan-64 : Met (refused (fan 64) 7)
 unfolding front table
 fan-64 = counts-refused (fan 64) (limits 64 (lit≤ tt) (lit≤ tt)) (λ x b few. omega (arith, b .balanced queue0, b .balanced queue1, b .balanced queue2, b .balanced queue3, b .positive 0 (lit< tt)))
@@ -125,7 +125,7 @@ period = record {
 }
 
 abbrev start : ℕ → ℕ → ℕ
-start = entry (at (stationColumn (fan 63) count)) (0 ∷ replicate 255 1)
+start = entry (at (stationEntries (fan 63) count)) (0 ∷ replicate 255 1)
 
 -- station 0 starts at 0, and the others when it has finished
 first-ends : (v i : ℕ) → v ≡ 0 → Copy G v i → finish G start v i ≡ 1
@@ -135,7 +135,7 @@ first-ends v i z c = let e : i ≡ 1 = omega (arith, c .low, c .high, ap (G .q) 
 others-start : (v i : ℕ) → Copy G (suc v) i → start (suc v) i ≡ 1
 unfolding front table
 others-start v i c =
-    let q = at (stationColumn (fan 63) count) in
+    let q = at (stationEntries (fan 63) count) in
     let place = sum (suc v) q + (i - 1) in
     let low = sum-before q 0 (suc v) (omega arith) in
     let high = sum-before q (suc v) 5 (copy-station G (counted .sound) c) in

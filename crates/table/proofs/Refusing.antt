@@ -18,7 +18,7 @@ use Rattle.dataflow.specs.Sheet as columns
 use Rattle.dataflow.proofs.StallLaws.{Short, stuck-of}
 use Rattle.checks.specs.Check.{netFor}
 use Rattle.planner.proofs.AnswerLaws.{answer-refused}
-use Rattle.table.specs.Rows.{Met, stationColumn, refused}
+use Rattle.table.specs.Rows.{Met, stationEntries, refused}
 use Rattle.table.proofs.Checking.{readSheet, netWith, delaysWith, WithinLimits, Counted, chain-refused, chain-passed, apart-passed, counts-of, counts-passed, fires-passed}
 
 module _ (s : columns.Sheet) (limits : WithinLimits s) where
@@ -27,21 +27,21 @@ module _ (s : columns.Sheet) (limits : WithinLimits s) where
 
   module _ {count : List ℕ} (c : Counted s count) where
     -- with these firings done each station that has some left is short of tokens
-    pub stuck-refused : (F : ℕ → ℕ) → ((v : ℕ) → v < s .stations → F v < at (stationColumn s count) v → Short (netWith s count) (delaysWith s count) F v)
-        → (v : ℕ) → F v < at (stationColumn s count) v → Met (refused s 8)
+    pub stuck-refused : (F : ℕ → ℕ) → ((v : ℕ) → v < s .stations → F v < at (stationEntries s count) v → Short (netWith s count) (delaysWith s count) F v)
+        → (v : ℕ) → F v < at (stationEntries s count) v → Met (refused s 8)
     stuck-refused F short v left =
         chain-refused s limits 8 (λ e. omega arith)
         (counts-passed s limits c
-        (here-now stuck (stationColumn s count, counts-of s limits c, stuck-of (netWith s count) (c .sound) (delaysWith s count) F all (record { v = v; i = _; undone = left; high = le-refl _ }))))
+        (here-now stuck (stationEntries s count, counts-of s limits c, stuck-of (netWith s count) (c .sound) (delaysWith s count) F all (record { v = v; i = _; undone = left; high = le-refl _ }))))
       where
-        all : (w : ℕ) → F w < at (stationColumn s count) w → Short (netWith s count) (delaysWith s count) F w
+        all : (w : ℕ) → F w < at (stationEntries s count) w → Short (netWith s count) (delaysWith s count) F w
         all w h = elim (decLt w (s .stations)) [ yes k ↦ short w k h | no k ↦ absurd (omega (arith, c .sound .beyond w (omega arith))) ]
 
     module _ (l : List ℕ) (round : RoundList (netWith s count) (delaysWith s count) l) where
       pub retiming-refused : ((r : ℕ → ℤ) → Serves (netWith s count) (delaysWith s count) (s .target) r → ⊥) → Met (refused s 9)
       retiming-refused none =
           chain-passed s limits (fires-passed s limits c l round)
-          (answer-refused 9 0 (λ e. omega arith) (here-now no-retiming (stationColumn s count, counts-of s limits c, none)) refl)
+          (answer-refused 9 0 (λ e. omega arith) (here-now no-retiming (stationEntries s count, counts-of s limits c, none)) refl)
 
       -- a station's time is above the target
       pub slow-refused : (v : ℕ) → v < s .stations → s .target < netWith s count .time v → Met (refused s 9)

@@ -14,6 +14,6 @@ use Rattle.table.proofs.Fan.{fan-63, fan-64}
 pub bench-table : (b : BenchRow) → List·Memᴰ b benchTable → Met b
 bench-table b m = each-in Met m (K-4-5, (K-4-4, (K-4-3, (K-4-2, (K-3-5, (K-3-4, (K-1-9, (lone-7, (lone-6, (self-1, (self-2, (fan-63, (fan-64, tt)))))))))))))
 
--- the row of K(4,3) begins with the bytes that document 01 prints
+-- the row of K(4,3) has the bytes that document 01 prints
 pub printed-bytes : bytesOf (written (K 4 3)) ≡ sampleBytes
 printed-bytes = sample-written

@@ -90,6 +90,7 @@ module _ (T : ℕ) where
   abbrev begun : Below 2 → ℕ
   begun = retimed (G 4 T) (delays 4 T) (whole (λ v. 0))
 
+  -- the round list before it, and after it
   unmoved : RoundList (G 4 T) begun (0 ∷ 0 ∷ 1 ∷ [])
   unfolding front table list-dec ℕ-discrete decLe decLt
   unmoved = by-yes (list-dec (G 4 T) (counted 4 T .sound) _ _ _) tt
@@ -99,9 +100,9 @@ module _ (T : ℕ) where
   moved = by-yes (list-dec (G 4 T) (counted 4 T .sound) _ _ _) tt
 
   -- where the copy of station 1 alone is late, one round of search raises r(1), and then all is in time
-  printed : 3 ≤ T → Upto (λ v. lateCount (G 4 T) (counted 4 T .sound) begun _ unmoved T v ≡ at (0 ∷ 1 ∷ []) v) 2 → Met (accepted (K 4 T) asPrinted)
+  one-round : 3 ≤ T → Upto (λ v. lateCount (G 4 T) (counted 4 T .sound) begun _ unmoved T v ≡ at (0 ∷ 1 ∷ []) v) 2 → Met (accepted (K 4 T) asPrinted)
   unfolding front table list-dec latest edge-dec ℕ-discrete decLe decLt
-  printed in-time late =
+  one-round in-time late =
       plan-accepted (K 4 T) asPrinted (limits 4 T (lit≤ tt)) (counted 4 T) _ (round-4 T) (record {
         searched = raise {r = λ v. 0} (at (0 ∷ 1 ∷ [])) (nothing (λ v. refl)) (computed-lates (G 4 T) (counted 4 T .sound) _ _ unmoved T (0 ∷ 1 ∷ []) refl late) (1, lit≤ tt) (λ v. omega (arith, padded-at (0 ∷ 1 ∷ []) 32 v));
         delays = each-below 2 _ (refl, (refl, tt));
@@ -118,20 +119,20 @@ module _ (T : ℕ) where
 
 pub K-4-4 : Met (accepted (K 4 4) asPrinted)
 unfolding front table lateCount latest edge-dec ℕ-discrete decLe decLt
-K-4-4 = printed 4 (lit≤ tt) ((tt, refl), refl)
+K-4-4 = one-round 4 (lit≤ tt) ((tt, refl), refl)
 
 pub K-4-3 : Met (accepted (K 4 3) asPrinted)
 unfolding front table lateCount latest edge-dec ℕ-discrete decLe decLt
-K-4-3 = printed 3 (lit≤ tt) ((tt, refl), refl)
+K-4-3 = one-round 3 (lit≤ tt) ((tt, refl), refl)
 
--- the search of K(3,4) raises something in each of its first three rounds, so it never ends
+-- what the first two rounds of the search of K(3,4) lead to
 abbrev first : ℕ → ℕ
 first v = at (0 ∷ 1 ∷ []) v
 
 abbrev second : ℕ → ℕ
 second v = first v + at (1 ∷ 0 ∷ []) v
 
--- the round lists of the retimings that it comes through
+-- the round lists from there
 from-nothing : RoundList (G 3 4) (retimed (G 3 4) (delays 3 4) (whole (λ v. 0))) (0 ∷ 0 ∷ 1 ∷ [])
 unfolding front table list-dec ℕ-discrete decLe decLt
 from-nothing = by-yes (list-dec (G 3 4) (counted 3 4 .sound) _ _ _) tt
@@ -155,6 +156,7 @@ three-rounds =
     (computed-lates (G 3 4) (counted 3 4 .sound) _ _ from-first 4 (1 ∷ 0 ∷ []) refl ((tt, refl), refl)) (0, lit≤ tt) (λ v. refl))
     (computed-lates (G 3 4) (counted 3 4 .sound) _ _ from-second 4 (0 ∷ 1 ∷ []) refl ((tt, refl), refl)) (1, lit≤ tt) (λ v. refl)
 
+-- three rounds raised something, as many as there are copies, so no whole numbers serve
 pub K-3-4 : Met (refused (K 3 4) 9)
 unfolding front table
 K-3-4 =

@@ -56,12 +56,12 @@ pub record Printed : Type 0 where
   pub round : List ℕ
   pub times : List ℕ
 
--- a column of the answer: 0 behind the last station, and behind the last queue
-abbrev pub stationColumn : columns.Sheet → List ℕ → List ℕ
-stationColumn s l = padded 32 (s .stations) (at l)
+-- a list of the answer: 0 behind the last station, and behind the last queue
+abbrev pub stationEntries : columns.Sheet → List ℕ → List ℕ
+stationEntries s l = padded 32 (s .stations) (at l)
 
-abbrev pub queueColumn : columns.Sheet → List ℕ → List ℕ
-queueColumn s l = padded 64 (s .queues) (at l)
+abbrev pub queueEntries : columns.Sheet → List ℕ → List ℕ
+queueEntries s l = padded 64 (s .queues) (at l)
 
 abbrev pub answer : columns.Sheet → Printed → Planning
 answer s p = record {
@@ -74,12 +74,12 @@ answer s p = record {
   back = p .back;
   starts = length (p .start);
   total = length (p .round);
-  tag = stationColumn s (written s .tag);
-  q = stationColumn s (p .count);
-  retiming = stationColumn s (p .retime);
-  start = stationColumn s (p .firings);
-  delay = queueColumn s (p .delay);
-  room = queueColumn s (p .room);
+  tag = stationEntries s (written s .tag);
+  q = stationEntries s (p .count);
+  retiming = stationEntries s (p .retime);
+  start = stationEntries s (p .firings);
+  delay = queueEntries s (p .delay);
+  room = queueEntries s (p .room);
 }
 
 -- a row with a plan; the lent buffers hold 0 and are as long as needed
@@ -115,6 +115,7 @@ asGiven s period count round times = record {
   times = times;
 }
 
+-- a row with such a plan
 abbrev pub acceptedAsGiven : (s : columns.Sheet) (period : ℕ) (count round times : List ℕ) → BenchRow
 acceptedAsGiven s period count round times = accepted s (asGiven s period count round times)
 
@@ -134,7 +135,7 @@ asPrinted = record {
   times = 0 ∷ 0 ∷ 0 ∷ [];
 }
 
--- station 0 feeding four, the last of them at this rate
+-- station 0 feeding four, by 64 tokens three times and by this many
 abbrev pub fan : (last : ℕ) → columns.Sheet
 fan last = sheet (1 ∷ 1 ∷ 1 ∷ 1 ∷ 1 ∷ []) (queue 0 1 64 1 0 ∷ queue 0 2 64 1 0 ∷ queue 0 3 64 1 0 ∷ queue 0 4 last 1 0 ∷ []) 2
 
@@ -142,6 +143,7 @@ fan last = sheet (1 ∷ 1 ∷ 1 ∷ 1 ∷ 1 ∷ []) (queue 0 1 64 1 0 ∷ queue 
 abbrev pub fanRound : List ℕ
 fanRound = (0 ∷ []) ++ replicate 64 1 ++ replicate 64 2 ++ replicate 64 3 ++ replicate 63 4
 
+-- All rows in the paper's order. Where it leaves numbers open, the station with a self-queue has time 1, target 1 and no tokens.
 abbrev pub benchTable : List BenchRow
 benchTable =
     acceptedAsGiven (K 4 5) 5 (2 ∷ 1 ∷ []) (0 ∷ 0 ∷ 1 ∷ []) (0 ∷ 0 ∷ 3 ∷ [])
