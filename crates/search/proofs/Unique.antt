@@ -22,7 +22,7 @@ use Rattle.chain.specs.Chain.{CountedChain, netOf, delaysOf}
 use Rattle.firing.specs.Times.{Ordered}
 use Rattle.chain.proofs.ChainLaws.{sound}
 use Rattle.firing.proofs.Unique.{table-unique}
-use Rattle.search.specs.Found.{Retimes, NoneServes, Searches}
+use Rattle.search.specs.Found.{Retimes, Searches}
 use Rattle.search.specs.declared.Found.{Found}
 use Rattle.search.proofs.FoundLaws.{new-delays}
 
@@ -45,9 +45,6 @@ module _ (n m : ℕ) (source sink produced consumed delay time q : List ℕ) (to
 
   abbrev Accepts : Found → Type 0
   Accepts = Retimes n m source sink produced consumed delay time q total target
-
-  abbrev Refuses : Found → Type 0
-  Refuses = NoneServes n m source sink produced consumed delay time q total target
 
   -- an order in which the retimed round can be fired
   new-order : (r : Found) → Accepts r → (l : List ℕ) × Ordered n m source sink produced consumed (r .delay) time q total l
@@ -87,20 +84,11 @@ module _ (n m : ℕ) (source sink produced consumed delay time q : List ℕ) (to
             let l = new-order r h in
             table-unique n m source sink produced consumed (r .delay) time q total c (l .0) (l .1) (r .table) (r′ .table) (h .table) (rw (sym delays) at (h′ .table)) (s .starts ∙ sym (s′ .starts))
 
-    same-refused : Refuses r → Refuses r′ → r .serves ≡ r′ .serves → r ≡ r′
-    same-refused h h′ e =
-        let rounds = h .no-rounds ∙ sym (h′ .no-rounds) in
-        let period = h .no-period ∙ sym (h′ .no-period) in
-        let retiming = h .no-retiming ∙ sym (h′ .no-retiming) in
-        let delays = h .no-delay ∙ sym (h′ .no-delay) in
-        let table = h .no-table ∙ sym (h′ .no-table) in
-        λ i. record { serves = e i; rounds = rounds i; period = period i; retiming = retiming i; delay = delays i; table = table i }
-
     pub search-unique : Searches n m source sink produced consumed delay time q total target r → Searches n m source sink produced consumed delay time q total target r′ → r ≡ r′
     search-unique p p′ = go (r .serves) (r′ .serves) refl refl
       where
         go : (b b′ : Bool) → r .serves ≡ b → r′ .serves ≡ b′ → r ≡ r′
         go true true e e′ = same-accepted (p .found e) (p′ .found e′) (e ∙ sym e′)
-        go false false e e′ = same-refused (p .none e) (p′ .none e′) (e ∙ sym e′)
+        go false false e e′ = p .none e .nothing ∙ sym (p′ .none e′ .nothing)
         go true false e e′ = absurd (p′ .none e′ .none (whole (at (r .retiming))) (p .found e .retiming .serves))
         go false true e e′ = absurd (p .none e .none (whole (at (r′ .retiming))) (p′ .found e′ .retiming .serves))

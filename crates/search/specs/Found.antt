@@ -13,6 +13,9 @@ use Rattle.chain.specs.Chain.{netOf, delaysOf}
 use Rattle.firing.specs.Times.{Tabled}
 use Rattle.search.specs.declared.Found.{Found}
 
+abbrev pub nothingFound : Found
+nothingFound = record { serves = false; rounds = 0; period = 0; retiming = replicate 32 0; delay = replicate 64 0; table = replicate 256 0 }
+
 module _ (n m : ℕ) (source sink produced consumed delay time q : List ℕ) (total target : ℕ) where
   -- the plan's retiming, the rounds of the search that ends at it, the new delays, their period and their time table
   pub record Retimes (r : Found) : Type 0 where
@@ -26,11 +29,7 @@ module _ (n m : ℕ) (source sink produced consumed delay time q : List ℕ) (to
   -- no whole numbers serve, and every number is 0
   pub record NoneServes (r : Found) : Type 0 where
     pub none : (z : ℕ → ℤ) → Serves (netOf n m source sink produced consumed time q) (delaysOf m delay) target z → ⊥
-    pub no-rounds : r .rounds ≡ 0
-    pub no-period : r .period ≡ 0
-    pub no-retiming : r .retiming ≡ replicate 32 0
-    pub no-delay : r .delay ≡ replicate 64 0
-    pub no-table : r .table ≡ replicate 256 0
+    pub nothing : r ≡ nothingFound
 
   pub record Searches (r : Found) : Type 0 where
     pub found : r .serves ≡ true → Retimes r

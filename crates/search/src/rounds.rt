@@ -1,12 +1,26 @@
 // The search.
+ghost use mathlib.Core.Path.{_≡_};
 ghost use Rattle.chain.specs.Chain.{DelaysGiven, CountedChain};
 ghost use Rattle.firing.specs.Into.{Threads};
 ghost use Rattle.firing.specs.Times.{Ordered};
-ghost use Rattle.search.specs.Found.{Searches};
+ghost use Rattle.search.specs.Found.{nothingFound, Searches};
 use crate::Found;
 use crate::order::reorder;
 use crate::raise::new_delays;
 use crate::raise::raised;
+
+fn nothing_found() -> Found
+    ensures { λ r. ⌜ r ≡ nothingFound ⌝ }
+{
+    Found {
+        serves: false,
+        rounds: 0,
+        period: 0,
+        retiming: [0; 32],
+        delay: [0; 64],
+        table: [0; 256],
+    }
+}
 
 // Raises every station at once by its late copies until none is late, from an order in which the round can be fired. At most N time tables; with N of
 // them late nothing serves.
@@ -68,12 +82,5 @@ pub fn search(
         retiming = raised(n, &late, &retiming);
         rounds += 1;
     }
-    Found {
-        serves: false,
-        rounds: 0,
-        period: 0,
-        retiming: [0; 32],
-        delay: [0; 64],
-        table: [0; 256],
-    }
+    nothing_found()
 }

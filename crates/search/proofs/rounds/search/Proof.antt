@@ -113,21 +113,18 @@ loop-again c =
       raised-once _ _ _ _ _ _ _ _ _ _ _ (a .0) (i .before .loop .inv .1) (a .1 .1 .0) (i .before .loop .inv .0) (i .before .before .before .before .bases .ensures) (t .time-table .ensures) (s .latest-end .ensures) (k .late-counts .ensures) (e .if1 .left) (c .raised .ensures) (n .new-delays .ensures) (n .before .before .before .reorder .ensures),
     )
 
+nothing-found-requires : tie.Need-nothing-found-requires Inv-loop μ-loop
+nothing-found-requires c κs = search needs
+
 returns-2 : tie.Need-returns-2 Inv-loop μ-loop
 returns-2 c =
-    let l = c .before in
+    let e = c .before in
+    let l = e .before in
     let a = l .before .before .before .before in
-    record {
-      found = λ e. absurd (differ e refl);
-      none = λ e. record {
-        none = gave-up _ _ _ _ _ _ _ _ _ _ _ (a .pre .0) (a .pre .1 .1 .1) (l .loop .inv .1) (c .loop-test .left);
-        no-rounds = refl;
-        no-period = refl;
-        no-retiming = refl;
-        no-delay = refl;
-        no-table = refl;
-      };
-    }
+    rw (c .nothing-found .ensures) (record {
+      found = λ t. absurd (differ t refl);
+      none = λ f. record { none = gave-up _ _ _ _ _ _ _ _ _ _ _ (a .pre .0) (a .pre .1 .1 .1) (l .loop .inv .1) (e .loop-test .left); nothing = refl };
+    })
 
 pub search-spec : {M : Type 1} → statement M
 search-spec =
@@ -147,4 +144,5 @@ search-spec =
     add-rounds
     loop-less
     loop-again
+    nothing-found-requires
     returns-2)
