@@ -1,14 +1,12 @@
 -- The laws of a list that is filled from its first entry on.
 use Prim.Native.Nat.{ℕ, _+_, _<_}
-use mathlib.Core.Path.{_≡_, sym, _∙_}
+use mathlib.Core.Path.{_∙_}
 use mathlib.Core.List.{List}
-use mathlib.Core.Logic.{⊎-elim}
 use native.Mathlib.Decide.{ℕ-discrete}
 use native.Mathlib.Omega.{arith}
 use lib.ListN.{length, set, replicate}
-use lib.Seq.{ext-getD, getD-set-same, getD-set-other}
+use lib.Seq.{getD-set-same, getD-set-other}
 use Rattle.lists.specs.Filled.{Filled}
-use Rattle.lists.proofs.Order.{lt-or-ge}
 use Rattle.lists.proofs.StoreLaws.{at-zeros}
 
 module _ {P : ℕ → ℕ → Type 0} where
@@ -23,8 +21,3 @@ module _ {P : ℕ → ℕ → Type 0} where
     ];
     rest = λ i b. getD-set-other l k i x 0 (λ e. omega arith) ∙ z .rest i (omega arith);
   }
-
-  -- where P fixes each entry there is one such list
-  pub filled-once : {l l′ : List ℕ} {k : ℕ} → ((i x y : ℕ) → i < k → P i x → P i y → x ≡ y) → Filled P k l → Filled P k l′ → length l ≡ length l′ → l ≡ l′
-  filled-once {l} {l′} {k} once z z′ e =
-      ext-getD 0 l l′ e (λ i b. ⊎-elim (λ c. once i _ _ c (z .is i c) (z′ .is i c)) (λ c. z .rest i c ∙ sym (z′ .rest i c)) (lt-or-ge i k))
