@@ -57,7 +57,7 @@ fn write(
     let sink = checked.sheet.sink;
     let produced = checked.sheet.produced;
     let consumed = checked.sheet.consumed;
-    let delay = checked.delay;
+    let given = checked.delay;
     let new = found.delay;
     let head = checked.head;
     let next = checked.next;
@@ -71,7 +71,7 @@ fn write(
         &sink,
         &produced,
         &consumed,
-        &delay,
+        &given,
         &head,
         &next,
         &firings,
