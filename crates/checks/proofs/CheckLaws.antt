@@ -14,7 +14,9 @@ use Rattle.lists.proofs.Order.{lt-or-ge}
 use Rattle.lists.proofs.StoreLaws.{at-zeros}
 use Rattle.refusals.specs.First.{Row, Passed, nth, First, free}
 use Rattle.refusals.specs.Table.{apart, counts-fail, stuck}
-use Rattle.refusals.proofs.FirstLaws.{here-now, passed, none, extend, append, all-passed}
+use Rattle.refusals.proofs.FirstLaws.{here-now, passed, none, extend, all-passed}
+use Rattle.refusals.specs.Answer.{Kind, Answers}
+use Rattle.refusals.proofs.AnswerLaws.{refuses, passes, follows}
 use Rattle.dataflow.specs.Net.{Sound}
 use Rattle.dataflow.specs.Counts.{Counts}
 use Rattle.dataflow.specs.Lists.{RoundList}
@@ -40,12 +42,8 @@ use Rattle.counts.specs.Joining.{AllJoined}
 use Rattle.counts.specs.Smallest.{Smallest}
 use Rattle.counts.proofs.RowLaws.{joined-passes, apart-applies, are-counts, counts-pass, counts-fail-applies}
 use Rattle.checks.specs.declared.Checked.{Checked}
-use Rattle.checks.specs.Check.{columnsOf, netFor, delaysFor, CountsOf, stuckRow, chainRows, checkRows, Ready, refusedBy, Judges}
+use Rattle.checks.specs.Check.{columnsOf, netFor, delaysFor, CountsOf, stuckRow, chainRows, checkRows, Ready, checkedKind, Judges, Checks}
 use Rattle.checks.proofs.SheetLaws.{read-chain}
-
--- a refusal is all that is said
-pub judged-refused : {rows : List Row} {f : Sheet} (number place : ℕ) {r : Checked} → (number ≡ 0 → ⊥) → First rows number place → r ≡ refusedBy number place → Judges rows f r
-judged-refused number place real v e = rw e (record { verdict = v; accepted = λ z. absurd (real z); refused = λ z. refl })
 
 -- what the counts of a net are hangs on its queues alone
 pub any-counts : (f : Sheet) (a b : List ℕ) (x : ℕ → ℕ) → Counts (netFor f a) x → Counts (netFor f b) x
@@ -117,11 +115,7 @@ module _ (f : Sheet) {joins : Bool} (T : Tells joins (AllJoined (f .n) (f .m) (f
 
     -- neither is
     pub chain-judged : counted .fits ≡ true → {r : Checked} → Judges (stuckRow f ∷ []) f r → Judges (chainRows f) f r
-    chain-judged k j = record {
-      verdict = passed {r = apartRow (netFor f [])} (λ place a. joined-passes (columnsOf f) [] T e a) (passed {r = countsRow (netFor f [])} (λ place a. counts-pass (columnsOf f) [] S k a) (j .verdict));
-      accepted = j .accepted;
-      refused = j .refused;
-    }
+    chain-judged k j = passes checkedKind (λ place a. joined-passes (columnsOf f) [] T e a) (passes checkedKind (λ place a. counts-pass (columnsOf f) [] S k a) j)
 
 pub counts-are : (f : Sheet) {counted : Counted} → Smallest (f .n) (f .m) (f .source) (f .sink) (f .produced) (f .consumed) counted → counted .fits ≡ true → CountsOf f (counted .q)
 counts-are f {counted} S k = record { entries = S .entries; counts = are-counts (columnsOf f) (counted .q) S k; beyond = S .beyond }
@@ -132,8 +126,7 @@ module _ (s : List ℕ) {reading : Reading} (R : Reads s reading) where
 
   pub read-judged : reading .number ≡ 0 → {r : Checked} → Judges (chainRows (reading .sheet)) (reading .sheet) r → Judges (checkRows s) (sheetOf s) r
   read-judged e {r} j =
-      let k = subst (λ (f : Sheet). Judges (chainRows f) f r) (R .accepted e) j in
-      record { verdict = append (readRows s) (all-passed (R .verdict) e) (k .verdict); accepted = k .accepted; refused = k .refused }
+      follows checkedKind (readRows s) (all-passed (R .verdict) e) (subst (λ (f : Sheet). Judges (chainRows f) f r) (R .accepted e) j)
 
 module _ {f : Sheet} {r : Checked} (h : Ready f r) where
   -- a chain with its counts
@@ -159,6 +152,19 @@ module _ {f : Sheet} {r : Checked} (h : Ready f r) where
         run = list-run (netFor f (r .q)) (at (r .q)) l;
         whole = list-fired (netFor f (r .q)) (at (r .q)) l;
       }
+
+-- what is worked out of a sheet is worked out of the one that is handed on
+pub ready-own : {f : Sheet} {c : Checked} → Ready f c → Ready (c .sheet) c
+ready-own {c = c} h = subst (λ (x : Sheet). Ready x c) (sym (h .sheet)) h
+
+-- an answer that begins with the checks goes on with rows of the sheet
+module _ {s : List ℕ} {c : Checked} (k : Checks s c) {R : Type 0} (kind : Kind R) (rows : Sheet → List Row) (P : Sheet → R → Type 0) {r : R} where
+  pub check-refuses : (c .number ≡ 0 → ⊥) → r ≡ kind .refusal (c .number) (c .place) → Answers kind (checkRows s ++ rows (sheetOf s)) (P (sheetOf s)) r
+  check-refuses e says = refuses kind (c .number) (c .place) e (extend (checkRows s) (rows (sheetOf s)) (k .verdict) e) says
+
+  pub check-follows : c .number ≡ 0 → Answers kind (rows (c .sheet)) (P (c .sheet)) r → Answers kind (checkRows s ++ rows (sheetOf s)) (P (sheetOf s)) r
+  check-follows e a =
+      follows kind (checkRows s) (all-passed (k .verdict) e) (subst (λ (f : Sheet). Answers kind (rows f) (P f) r) (k .accepted e .sheet) a)
 
 -- a sheet that no row of reading refuses is within limits
 pub rows-chain : (s : List ℕ) → ((j : ℕ) → j < 5 → Passed (nth (readRows s) j)) → Chain (sheetOf s .n) (sheetOf s .m) (sheetOf s .source) (sheetOf s .sink) (sheetOf s .produced) (sheetOf s .consumed)

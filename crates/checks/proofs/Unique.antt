@@ -3,19 +3,18 @@ use Prim.Native.Nat.{ℕ, _<_}
 use mathlib.Core.Path.{_≡_, sym, ap, subst, _∙_}
 use mathlib.Core.List.{List}
 use mathlib.Core.Logic.{⊎-elim}
-use native.Mathlib.Decide.{ℕ-discrete}
 use lib.ListN.{length, take}
 use lib.Seq.{ext-getD, getD-take}
 use Rattle.lists.specs.Front.{at}
 use Rattle.lists.proofs.Order.{lt-or-ge}
-use Rattle.refusals.proofs.FirstLaws.{unique}
+use Rattle.refusals.proofs.AnswerLaws.{answers-once}
 use Rattle.dataflow.specs.Counts.{sum}
 use Rattle.dataflow.specs.Lists.{RoundList}
 use Rattle.dataflow.proofs.ListLaws.{list-once}
 use Rattle.sheet.specs.declared.Sheet.{Sheet}
 use Rattle.firing.proofs.Unique.{heads-unique, nexts-unique}
 use Rattle.checks.specs.declared.Checked.{Checked}
-use Rattle.checks.specs.Check.{netFor, delaysFor, Ready, refusedBy, Checks}
+use Rattle.checks.specs.Check.{netFor, delaysFor, Ready, checkedKind, Checks}
 use Rattle.checks.proofs.CheckLaws.{counts-of-once}
 
 -- the lists of an answer have their lengths
@@ -67,11 +66,4 @@ module _ (r r′ : Checked) (z : Sized r) (z′ : Sized r′) where
       list = ext-getD 0 (r .list) (r′ .list) (z .entries ∙ sym (z′ .entries)) (λ k b. ⊎-elim (within k) (λ c. h .rest k c ∙ sym (h′ .rest k (rw (sym total) c))) (lt-or-ge k (r .total)))
 
   pub check-unique : (s : List ℕ) → Checks s r → Checks s r′ → r ≡ r′
-  check-unique s p p′ = go (ℕ-discrete (r .number) 0)
-    where
-      same : (r .number ≡ r′ .number) × (r .place ≡ r′ .place)
-      same = unique (p .verdict) (p′ .verdict)
-
-      go : Dec (r .number ≡ 0) → r ≡ r′
-      go (yes e) = same-ready _ (p .accepted e) (p′ .accepted (sym (same .0) ∙ e)) (same .0) (same .1)
-      go (no n) = p .refused n ∙ (λ i. refusedBy (same .0 i) (same .1 i)) ∙ sym (p′ .refused (λ e. n (same .0 ∙ e)))
+  check-unique s p p′ = answers-once checkedKind p p′ (λ number place h h′. same-ready _ h h′ number place)

@@ -1,11 +1,12 @@
 -- Checks 1 to 8, and what they work out of a sheet.
 use Prim.Native.Nat.{ℕ, _≤_}
-use mathlib.Core.Path.{_≡_}
+use mathlib.Core.Path.{_≡_, refl}
 use mathlib.Core.List.{List, [], _∷_, _++_}
 use lib.ListN.{length, take, replicate}
 use Rattle.lists.specs.Front.{at}
 use Rattle.refusals.specs.Table.{Refusal, stuck}
-use Rattle.refusals.specs.First.{Row, row, First}
+use Rattle.refusals.specs.First.{Row, row}
+use Rattle.refusals.specs.Answer.{Kind, Answers}
 use Rattle.dataflow.specs.Net.{Net}
 use Rattle.dataflow.specs.Counts.{Counts, sum}
 use Rattle.dataflow.specs.Lists.{RoundList}
@@ -87,11 +88,12 @@ refusedBy number place = record {
   list = replicate 256 0;
 }
 
+abbrev pub checkedKind : Kind Checked
+checkedKind = record { number = λ r. r .number; place = λ r. r .place; refusal = refusedBy; tells-number = λ k p. refl; tells-place = λ k p. refl }
+
 -- the first of the rows that applies and nothing else, or what is worked out of f
-pub record Judges (rows : List Row) (f : Sheet) (r : Checked) : Type 0 where
-  pub verdict : First rows (r .number) (r .place)
-  pub accepted : r .number ≡ 0 → Ready f r
-  pub refused : (r .number ≡ 0 → ⊥) → r ≡ refusedBy (r .number) (r .place)
+abbrev pub Judges : (rows : List Row) (f : Sheet) → Checked → Type 0
+Judges rows f = Answers checkedKind rows (Ready f)
 
 -- checks 1 to 8 of a sheet's bytes
 abbrev pub Checks : (s : List ℕ) → Checked → Type 0

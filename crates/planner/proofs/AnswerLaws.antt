@@ -1,6 +1,6 @@
 -- The planner's answers, put together check by check.
 use Prim.Native.Nat.{ℕ}
-use mathlib.Core.Path.{_≡_, refl, sym, subst, ap}
+use mathlib.Core.Path.{_≡_, refl, subst, ap}
 use mathlib.Core.List.{List, [], _∷_}
 use lib.ListN.{length}
 use Rattle.refusals.specs.First.{Row, Passed, First}
@@ -8,7 +8,7 @@ use Rattle.refusals.proofs.FirstLaws.{passed, none, extend, append, all-passed}
 use Rattle.sheet.specs.declared.Sheet.{Sheet}
 use Rattle.sheet.specs.Format.{sheetOf}
 use Rattle.checks.specs.declared.Checked.{Checked}
-use Rattle.checks.specs.Check.{checkRows, Ready, Checks}
+use Rattle.checks.specs.Check.{checkRows, Checks}
 use Rattle.search.specs.declared.Found.{Found}
 use Rattle.planner.specs.declared.Planning.{Planning}
 use Rattle.planner.specs.Making.{Listed, HasRoom, Wrote, Shown}
@@ -36,10 +36,6 @@ answer-planned {c} {start = start} {round} {times} {p = p} l w h s = record {
   accepted = λ e. planned (l .begun) w h s;
   refused = λ z. absurd (z (ap (λ (x : Planning). x .number) (s .is)));
 }
-
--- what is worked out of a sheet is worked out of the one that is handed on
-pub ready-own : {f : Sheet} {c : Checked} → Ready f c → Ready (c .sheet) c
-ready-own {c = c} h = subst (λ (x : Sheet). Ready x c) (sym (h .sheet)) h
 
 module _ {s : List ℕ} {c : Checked} (k : Checks s c) (start round times : List ℕ) where
   pub check-refused : (c .number ≡ 0 → ⊥) → First (planRows s (length start) (length round) (length times)) (c .number) (c .place)

@@ -2,7 +2,9 @@ use native.Mathlib.Omega.{arith}
 use borrow.Author.Tests.{not-true, not-false}
 use borrow.Author.Needs.{needs}
 use Rattle.counts.proofs.RowLaws.{counted-chain}
-use Rattle.checks.proofs.CheckLaws.{judged-refused, apart-refused, counts-refused, counts-are, chain-judged}
+use Rattle.refusals.proofs.AnswerLaws.{refuses}
+use Rattle.checks.specs.Check.{checkedKind}
+use Rattle.checks.proofs.CheckLaws.{apart-refused, counts-refused, counts-are, chain-judged}
 use Rattle.checks.proofs.judge.chained.Statement.{statement}
 use Rattle.checks.proofs.judge.chained.Tie as tie
 
@@ -15,7 +17,7 @@ refused-requires c κs = search needs
 returns : tie.Need-returns
 returns c =
     let j = c .before .before in
-    judged-refused 6 0 (λ e. omega arith) (apart-refused (j .before .before .before .before .before .before .before .args .sheet) (j .joined .ensures) (not-true _ (c .before .if1 .taken))) (c .refused .ensures)
+    refuses checkedKind 6 0 (λ e. omega arith) (apart-refused (j .before .before .before .before .before .before .before .args .sheet) (j .joined .ensures) (not-true _ (c .before .if1 .taken))) (c .refused .ensures)
 
 counts-requires : tie.Need-counts-requires
 counts-requires c κs = search needs
@@ -27,7 +29,7 @@ returns-2 : tie.Need-returns-2
 returns-2 c =
     let k = c .before .before .before in
     let j = k .before .before .before .before .before .before in
-    judged-refused 7 0 (λ e. omega arith)
+    refuses checkedKind 7 0 (λ e. omega arith)
     (counts-refused (j .before .before .before .before .before .before .before .args .sheet) (j .joined .ensures) (not-false _ (k .before .before .before .before .before .if1 .left)) (k .counts .ensures) (not-true _ (c .before .if2 .taken))) (c .refused2 .ensures)
 
 wide-counts-requires : tie.Need-wide-counts-requires

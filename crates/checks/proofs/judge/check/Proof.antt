@@ -1,6 +1,8 @@
 use borrow.Author.Needs.{needs}
 use Rattle.checks.proofs.SheetLaws.{read-chain, read-delays}
-use Rattle.checks.proofs.CheckLaws.{judged-refused, read-refused, read-judged}
+use Rattle.refusals.proofs.AnswerLaws.{refuses}
+use Rattle.checks.specs.Check.{checkedKind}
+use Rattle.checks.proofs.CheckLaws.{read-refused, read-judged}
 use Rattle.checks.proofs.judge.check.Statement.{statement}
 use Rattle.checks.proofs.judge.check.Tie as tie
 
@@ -13,7 +15,7 @@ refused-requires c κs = search needs
 returns : tie.Need-returns
 returns c =
     let r = c .before .before .before in
-    judged-refused _ _ (c .before .if1 .taken) (read-refused _ (r .read .ensures) (c .before .if1 .taken)) (c .refused .ensures)
+    refuses checkedKind _ _ (c .before .if1 .taken) (read-refused _ (r .read .ensures) (c .before .if1 .taken)) (c .refused .ensures)
 
 chained-requires : tie.Need-chained-requires
 chained-requires c κs =

@@ -3,7 +3,9 @@ use native.Mathlib.Omega.{arith}
 use borrow.Author.Tests.{not-true, not-false}
 use borrow.Author.Needs.{needs}
 use Rattle.firing.proofs.PeriodLaws.{round-wanted}
-use Rattle.checks.proofs.CheckLaws.{judged-refused, stuck-refused, fires-passed, is-ready}
+use Rattle.refusals.proofs.AnswerLaws.{refuses}
+use Rattle.checks.specs.Check.{checkedKind}
+use Rattle.checks.proofs.CheckLaws.{stuck-refused, fires-passed, is-ready}
 use Rattle.checks.proofs.judge.fired.Statement.{statement}
 use Rattle.checks.proofs.judge.fired.Tie as tie
 
@@ -31,7 +33,7 @@ returns c =
     let l = c .before .before .before in
     let d = l .before .before .before .before .before .before .before .before .before .before .before .before .before .before in
     let a = d .before .before .before .before .before .before .before in
-    judged-refused 8 0 (λ e. omega arith) (stuck-refused (a .args .sheet) (a .pre .0) (a .pre .1 .0) (d .wide-delays .ensures) (l .fire-list .ensures) (not-true _ (c .before .if1 .taken))) (c .refused .ensures)
+    refuses checkedKind 8 0 (λ e. omega arith) (stuck-refused (a .args .sheet) (a .pre .0) (a .pre .1 .0) (d .wide-delays .ensures) (l .fire-list .ensures) (not-true _ (c .before .if1 .taken))) (c .refused .ensures)
 
 returns-2 : tie.Need-returns-2
 returns-2 c =

@@ -1,5 +1,6 @@
 use borrow.Author.Needs.{needs}
-use Rattle.planner.proofs.AnswerLaws.{answer-refused, ready-own, check-refused, check-passed}
+use Rattle.checks.proofs.CheckLaws.{ready-own}
+use Rattle.planner.proofs.AnswerLaws.{answer-refused, check-refused, check-passed}
 use Rattle.planner.proofs.making.plan.Statement.{statement}
 use Rattle.planner.proofs.making.plan.Tie as tie
 
