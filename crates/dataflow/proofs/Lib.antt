@@ -29,6 +29,8 @@ pub mod RepeatLaws
 pub mod PromiseLaws
 pub mod LoopLaws
 pub mod MoveLaws
+pub mod MovedLaws
+pub mod NumberLaws
 pub mod DispatchLaws
 pub mod CountLaws
 pub mod PlanLaws

@@ -6,7 +6,8 @@ use native.Mathlib.Omega.{arith}
 use lib.IntN.{ℤ, pos, negsuc, _+ℤ_, _-ℤ_}
 use Rattle.dataflow.specs.Copies.{copyOf, roundOf}
 use Rattle.dataflow.specs.Move.{floorDiv, floorMod, movedCopy, movedShift}
-use Rattle.dataflow.proofs.WholeLaws.{up, down, same-number, sum-is}
+use Rattle.dataflow.specs.Whole.{up, down}
+use Rattle.dataflow.proofs.WholeLaws.{same-number, sum-is}
 
 -- z = q × f + m with 0 ≤ m < q
 pub record Floor (z : ℤ) (q : ℕ) (f : ℤ) (m : ℕ) : Type 0 where

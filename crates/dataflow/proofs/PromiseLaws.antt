@@ -16,7 +16,8 @@ use Rattle.dataflow.proofs.FeedLaws.{Feed}
 use Rattle.dataflow.proofs.CopyLaws.{inside, inside-of}
 use Rattle.dataflow.proofs.ListFrom.{from-in, in-from}
 use Rattle.dataflow.proofs.OriginLaws.{tokenAt, token-made}
-use Rattle.dataflow.proofs.WholeLaws.{up, down, delay-is, Retimed, retimed-is}
+use Rattle.dataflow.specs.Whole.{up, down}
+use Rattle.dataflow.proofs.WholeLaws.{delay-is, Retimed, retimed-is}
 use Rattle.dataflow.proofs.RunLaws.{Holds, holds, holds-length}
 use Rattle.dataflow.proofs.TakenLaws.{after-append, run-append, taken-is, same-in-every-run}
 use Rattle.dataflow.proofs.RankLaws.{round-ranked}

@@ -8,7 +8,8 @@ use Rattle.dataflow.specs.Net.{Net, Sound}
 use Rattle.dataflow.specs.Places.{Depends}
 use Rattle.dataflow.specs.Retiming.{Legal, retimed}
 use Rattle.dataflow.proofs.FeedLaws.{feed-of, depends-of, feed-move}
-use Rattle.dataflow.proofs.WholeLaws.{up, down, delay-is, new-delay}
+use Rattle.dataflow.specs.Whole.{up, down}
+use Rattle.dataflow.proofs.WholeLaws.{delay-is, new-delay}
 
 module _ (G : Net) (W : Sound G) where
   -- Firing g depends on firing f.

@@ -8,19 +8,11 @@ use native.Mathlib.Omega.{arith}
 use lib.Dec.{T, ltb, ltb→lt, nltb→le}
 use lib.IntN.{ℤ, pos, negsuc, negℤ, subℕ, _+ℤ_, _*ℤ_}
 use Rattle.dataflow.specs.Net.{Net, Sound}
+use Rattle.dataflow.specs.Whole.{up, down}
 use Rattle.dataflow.specs.Counts.{sum}
 use Rattle.dataflow.specs.Paths.{Within}
 use Rattle.dataflow.specs.Retiming.{NotNegative, amount, whole, newDelay, Legal, retimed, Serves}
 use Rattle.dataflow.proofs.SumLaws.{sum-above}
-
--- A whole number is up - down, and one of the two is 0.
-abbrev pub up : ℤ → ℕ
-up (pos n) = n
-up (negsuc n) = 0
-
-abbrev pub down : ℤ → ℕ
-down (pos n) = 0
-down (negsuc n) = suc n
 
 -- x - y = a - b, with nothing taken away
 pub same-number : (x y : ℤ) → up x + down y ≡ up y + down x → x ≡ y

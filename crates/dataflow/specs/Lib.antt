@@ -5,6 +5,7 @@ pub mod Copies
 pub mod Paths
 pub mod Runs
 pub mod Stuck
+pub mod Whole
 pub mod Retiming
 pub mod Search
 pub mod Lists

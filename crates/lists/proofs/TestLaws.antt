@@ -1,10 +1,10 @@
 -- The laws of what a test tells.
-use Prim.Native.Nat.{ℕ, _<_}
+use Prim.Native.Nat.{ℕ, _≤_, _<_}
 use mathlib.Core.Path.{_≡_}
 use mathlib.Core.Bool.{Bool, true, false}
 use native.Mathlib.Omega.{arith}
-use lib.Dec.{ltb}
-use borrow.Author.Tests.{ltb-true, ltb-false}
+use lib.Dec.{ltb, leb}
+use borrow.Author.Tests.{ltb-true, ltb-false, leb-true, leb-false}
 use Rattle.lists.specs.Test.{Tells}
 
 pub differ : {b : Bool} → b ≡ true → b ≡ false → ⊥
@@ -16,6 +16,9 @@ tells-true t p = record { holds = λ e. p; fails = λ e q. differ t e }
 pub tells-false : {P : Type 0} {b : Bool} → b ≡ false → (P → ⊥) → Tells b P
 tells-false f n = record { holds = λ e. absurd (differ e f); fails = λ e. n }
 
--- a comparison tells what it compares
+-- comparisons tell what they compare
 pub tells-lt : (a b : ℕ) → Tells (ltb a b) (a < b)
 tells-lt a b = record { holds = ltb-true a b; fails = λ e l. let g = ltb-false a b e in omega arith }
+
+pub tells-le : (a b : ℕ) → Tells (leb a b) (a ≤ b)
+tells-le a b = record { holds = leb-true a b; fails = λ e l. let g = leb-false a b e in omega arith }

@@ -16,7 +16,8 @@ use Rattle.dataflow.proofs.ListLaws.{start-length}
 use Rattle.dataflow.proofs.PlanLaws.{search-bound, back-bound}
 use Rattle.dataflow.proofs.SearchLaws.{rounds-bound}
 use Rattle.dataflow.proofs.SumLaws.{sum-above}
-use Rattle.dataflow.proofs.WholeLaws.{Retimed, delay-is, up, down}
+use Rattle.dataflow.specs.Whole.{up, down}
+use Rattle.dataflow.proofs.WholeLaws.{Retimed, delay-is}
 use Rattle.chain.specs.Chain.{DelaysGiven, CountedChain, netOf, delaysOf}
 use Rattle.chain.proofs.ChainLaws.{sound}
 use Rattle.search.specs.Found.{Retimes}

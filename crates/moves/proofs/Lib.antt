@@ -1,0 +1,2 @@
+pub mod MovingLaws
+pub mod Unique

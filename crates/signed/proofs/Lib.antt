@@ -1,0 +1,2 @@
+pub mod SignLaws
+pub mod PartLaws
