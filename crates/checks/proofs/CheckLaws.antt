@@ -20,7 +20,7 @@ use Rattle.refusals.proofs.AnswerLaws.{refuses, passes, follows}
 use Rattle.dataflow.specs.Net.{Sound}
 use Rattle.dataflow.specs.Counts.{Counts}
 use Rattle.dataflow.specs.Lists.{RoundList}
-use Rattle.dataflow.specs.Refusals.{apartRow, countsRow}
+use Rattle.dataflow.specs.Refusals.{apartRow}
 use Rattle.dataflow.specs.Stuck.{Stuck}
 use Rattle.dataflow.proofs.CountLaws.{counts-once}
 use Rattle.dataflow.proofs.ListLaws.{list-run, list-fired, round-length}

@@ -1,9 +1,9 @@
 -- One move, by the row of the table and by the definitions.
 use Prim.Native.Nat.{ℕ, _+_, _-_, _≤_, _<_}
-use mathlib.Core.Path.{_≡_, refl, ap, subst}
+use mathlib.Core.Path.{_≡_, refl, subst}
 use mathlib.Core.List.{List, [], _∷_}
 use native.Mathlib.Omega.{arith}
-use lib.IntN.{ℤ, pos, negsuc, negℤ, natAbs, _+ℤ_, _-ℤ_}
+use lib.IntN.{ℤ, pos, negsuc, negℤ, _+ℤ_, _-ℤ_}
 use Rattle.lists.specs.Front.{at}
 use Rattle.refusals.specs.Table.{hand}
 use Rattle.refusals.specs.First.{Passed, First}
@@ -28,11 +28,6 @@ number-moved i r h =
     let b = sum-is (pos i) r .is in
     let d = sum-is (pos i +ℤ r) (negsuc 0) .is in
     same-number _ _ (omega (arith, up-neg (pos (down r)), down-neg (pos (down r))))
-
--- the number and its two sums are small
-pub parts-small : (r : ℤ) → natAbs r ≤ 65535 → (up r ≤ 65535) × (down r ≤ 65535)
-parts-small (pos n) h = (h, omega arith)
-parts-small (negsuc n) h = (omega arith, h)
 
 module _ {c : Checked} (h : Ready (c .sheet) c) where
   pub count-few : (v : ℕ) → v < c .sheet .n → at (c .q) v ≤ 256

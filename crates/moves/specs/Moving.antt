@@ -1,6 +1,6 @@
 -- What one move answers: refusals 1 to 8 and 12, or where the copy goes.
 use Prim.Native.Nat.{ℕ}
-use mathlib.Core.Path.{_≡_, refl}
+use mathlib.Core.Path.{refl}
 use mathlib.Core.List.{List, [], _∷_, _++_}
 use lib.IntN.{ℤ, pos}
 use Rattle.refusals.specs.Table.{hand}

@@ -6,7 +6,7 @@ use lib.ListN.{length}
 use native.Mathlib.Decide.{ℕ-discrete}
 use Rattle.refusals.specs.First.{Row, Passed, nth, First}
 use Rattle.refusals.specs.Answer.{Kind, Answers}
-use Rattle.refusals.proofs.FirstLaws.{passed, none, extend, append, all-passed, unique}
+use Rattle.refusals.proofs.FirstLaws.{passed, none, append, unique}
 
 module _ {R : Type 0} (kind : Kind R) {P : R → Type 0} {r : R} where
   -- a refusal is all that is said

@@ -11,6 +11,7 @@ use mir.Val.{SFits}
 use Rattle.lists.proofs.Order.{lt-or-ge}
 use Rattle.dataflow.specs.Whole.{up, down}
 use Rattle.dataflow.specs.Move.{floorDiv, floorMod}
+use Rattle.dataflow.specs.Refusals.{InHandRange}
 use Rattle.dataflow.proofs.WholeLaws.{same-number, sum-is, up-neg, down-neg}
 use Rattle.signed.proofs.SignLaws.{Below, Above}
 
@@ -57,3 +58,12 @@ size-is (negsuc n) = omega arith
 
 pub difference-fits : (a b : ℕ) → a < 2 ^ 31 → b ≤ 2 ^ 31 → SFits w32 (pos a -ℤ pos b)
 difference-fits a b ha hb = ⊎-elim (λ l. rw (sub-below a b l) (record { sfits = omega arith })) (λ l. rw (sub-above a b l) (record { sfits = omega arith })) (lt-or-ge a b)
+
+-- both parts of a number in range are in range
+pub parts-small : (x : ℤ) → InHandRange x → (up x ≤ 65535) × (down x ≤ 65535)
+parts-small (pos n) h = (h, omega arith)
+parts-small (negsuc n) h = (omega arith, h)
+
+pub range-fits : (x : ℤ) → InHandRange x → SFits w32 x
+range-fits (pos n) h = record { sfits = omega arith }
+range-fits (negsuc n) h = record { sfits = omega arith }

@@ -7,8 +7,8 @@ use mir.Syntax.{w32}
 use mir.Val.{SFits, toZ, ofZ}
 use Rattle.dataflow.specs.Whole as whole
 use Rattle.dataflow.specs.Move.{floorDiv, floorMod}
-use Rattle.signed.proofs.PartLaws.{difference-fits, floor-fits}
-use Rattle.moves.proofs.MovingLaws.{number-moved, parts-small}
+use Rattle.signed.proofs.PartLaws.{parts-small, difference-fits, floor-fits}
+use Rattle.moves.proofs.MovingLaws.{number-moved}
 use borrow.Author.Needs.{needs}
 use Rattle.moves.proofs.moving.moved.Statement.{statement}
 use Rattle.moves.proofs.moving.moved.Tie as tie

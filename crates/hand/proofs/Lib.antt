@@ -1,0 +1,4 @@
+pub mod ShiftLaws
+pub mod LowestLaws
+pub mod TrialLaws
+pub mod Unique

@@ -1,0 +1,66 @@
+use native.Mathlib.Omega.{arith}
+use borrow.Author.Needs.{needs}
+use Rattle.firing.proofs.PeriodLaws.{round-wanted, round-ordered, period-is}
+use Rattle.checks.proofs.CheckLaws.{ready-counted}
+use Rattle.hand.proofs.TrialLaws.{must-fire}
+use Rattle.hand.proofs.trial.period_with.Statement.{statement}
+use Rattle.hand.proofs.trial.period_with.Tie as tie
+
+bases-requires : tie.Need-bases-requires
+bases-requires c κs = search needs
+
+slice-aggregate-fire-list : tie.Need-slice-aggregate-fire-list
+slice-aggregate-fire-list c = search needs
+
+fire-list-requires : tie.Need-fire-list-requires
+fire-list-requires c κs =
+    let b = c .before .before .before .before .before .before .before .before .before in
+    let p = b .before .before .before .before .before .before .before .before .before .before .pre in
+    (p .ready .chain, (p .ready .threads, (p .small, round-wanted (ready-counted (p .ready)))))
+
+time-table-requires : tie.Need-time-table-requires
+time-table-requires c κs =
+    let f = c .before .before .before .before .before .before .before .before .before .before .before .before in
+    let b = f .before .before .before .before .before .before .before .before .before .before in
+    let a = b .before .before .before .before .before .before .before .before .before .before in
+    let p = a .pre in
+    let k = ready-counted (p .ready) in
+    (k, (p .ready .threads, (b .bases .ensures, (p .small, round-ordered k (f .fire-list .ensures) (a .args .checked .sheet .time) (must-fire p (f .fire-list .ensures)) (omega (arith, k .few))))))
+
+latest-end-requires : tie.Need-latest-end-requires
+latest-end-requires c κs =
+    let t = c .before .before .before .before in
+    let f = t .before .before .before .before .before .before .before .before .before .before .before .before .before in
+    let b = f .before .before .before .before .before .before .before .before .before .before in
+    let a = b .before .before .before .before .before .before .before .before .before .before in
+    let k = ready-counted (a .pre .ready) in
+    record {
+      some = k .chain .some;
+      few = k .chain .few;
+      positive = k .positive;
+      begins = b .bases .ensures;
+      fits = omega (arith, k .adds, k .few);
+      starts = t .time-table .ensures .starts;
+    }
+
+returns : tie.Need-returns
+returns c =
+    let t = c .before .before .before .before .before in
+    let f = t .before .before .before .before .before .before .before .before .before .before .before .before .before in
+    let b = f .before .before .before .before .before .before .before .before .before .before in
+    let a = b .before .before .before .before .before .before .before .before .before .before in
+    let p = a .pre in
+    let k = ready-counted (p .ready) in
+    let o = round-ordered k (f .fire-list .ensures) (a .args .checked .sheet .time) (must-fire p (f .fire-list .ensures)) (omega (arith, k .few)) in
+    period-is _ _ _ _ _ _ _ _ _ _ k o (t .time-table .ensures) (c .latest-end .ensures)
+
+pub period-with-spec : {M : Type 1} → statement M
+period-with-spec =
+    tie.close
+    (tie.spec
+    bases-requires
+    slice-aggregate-fire-list
+    fire-list-requires
+    time-table-requires
+    latest-end-requires
+    returns)
