@@ -28,7 +28,7 @@ use Rattle.firing.specs.Fire.{Fires}
 use Rattle.firing.proofs.PeriodLaws.{round-stuck}
 use Rattle.sheet.specs.declared.Sheet.{Sheet}
 use Rattle.checks.specs.declared.Checked.{Checked}
-use Rattle.checks.specs.Check.{netFor, delaysFor, Ready}
+use Rattle.checks.specs.Check.{netFor, delaysFor, CountsOf, Ready}
 use Rattle.checks.proofs.CheckLaws.{counts-of-once, ready-counted, ready-given}
 use Rattle.hand.specs.declared.HandPeriod.{HandPeriod}
 use Rattle.hand.specs.Hand.{negativeRow, slowRow, Tried}
@@ -58,6 +58,12 @@ is-below (negsuc n) a b D h t = t
 amount-is : (z : ℤ) (a b x : ℕ) → Difference z a b → x + b ≡ a → amount z ≡ x
 amount-is (pos n) a b x D h = omega (arith, D .is)
 amount-is (negsuc n) a b x D h = absurd (omega (arith, D .is))
+
+-- 14 is not given where the period is within the target
+pub in-time : (f : Sheet) (l : List ℤ) {q : List ℕ} → CountsOf f q → {P : ℕ} → Period (netFor f q) (retimed (netFor f q) (delaysFor f q) (byHand l)) P → P ≤ f .target → Passed (slowRow f l)
+in-time f l {q} counts {P} period b place a =
+    let x = subst (λ (q : List ℕ). (P′ : ℕ) × Period (netFor f q) (retimed (netFor f q) (delaysFor f q) (byHand l)) P′ × (f .target < P′)) (counts-of-once f (a .0) q (a .1) counts) (a .2) in
+    omega (arith, x .2, period-once _ _ P (x .0) period (x .1))
 
 module _ {c : Checked} (h : Ready (c .sheet) c) {l : List ℤ} (fit : HandFits (netFor (c .sheet) []) l) where
   abbrev f : Sheet
@@ -119,9 +125,7 @@ module _ {c : Checked} (h : Ready (c .sheet) c) {l : List ℤ} (fit : HandFits (
 
           -- or it is not
           pub slow-passed : P ≤ f .target → Passed (slowRow f l)
-          slow-passed b place a =
-              let x = subst (λ (q : List ℕ). (P′ : ℕ) × Period (netFor f q) (retimed (netFor f q) (delaysFor f q) (byHand l)) P′ × (f .target < P′)) (counts-of-once f (a .0) (c .q) (a .1) (h .counts)) (a .2) in
-              omega (arith, x .2, period-once _ _ P (x .0) period (x .1))
+          slow-passed = in-time f l (h .counts) period
 
           pub tried : P ≤ f .target → {a : HandPeriod} → a .period ≡ P → Tried f l a
           tried b e = record { q = c .q; counts = h .counts; promise = rw e (record { legal = is-legal (c .q); period = period; within = b }) }

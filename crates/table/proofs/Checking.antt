@@ -61,7 +61,7 @@ module _ (s : columns.Sheet) (limits : WithinLimits s) where
   reads = reads-back (written s) refl (limits .numbers) (λ e a. a .1 (limits .queues e (a .0)))
 
   -- rows 1 to 5 apply nowhere
-  read-rows : {number place : ℕ} → First (chainRows (readSheet s)) number place → First (checkRows (bytesOf (written s))) number place
+  pub read-rows : {number place : ℕ} → First (chainRows (readSheet s)) number place → First (checkRows (bytesOf (written s))) number place
   read-rows {number} {place} v =
       append (readRows (bytesOf (written s))) (all-passed (reads .verdict) refl)
       (subst (λ (f : Sheet). First (chainRows f) number place) (sheet-back (written s) refl) v)

@@ -4,4 +4,5 @@ pub mod Accepting
 pub mod WorkedExample
 pub mod OneStation
 pub mod Fan
+pub mod ByHand
 pub mod Table

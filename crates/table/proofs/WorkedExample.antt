@@ -32,7 +32,7 @@ queue0 = (0, lit< tt)
 abbrev queue1 : Below 2
 queue1 = (1, lit< tt)
 
-limits : (d T : ℕ) → d ≤ 4095 → WithinLimits (K d T)
+pub limits : (d T : ℕ) → d ≤ 4095 → WithinLimits (K d T)
 unfolding front table
 limits d T h = record {
   numbers = omega arith;
@@ -40,13 +40,13 @@ limits d T h = record {
   joined = upto _ 2 ((tt, here), along queue0 here);
 }
 
-abbrev G : (d T : ℕ) → Net
+abbrev pub G : (d T : ℕ) → Net
 G d T = netWith (K d T) (2 ∷ 1 ∷ [])
 
-abbrev delays : (d T : ℕ) → Below 2 → ℕ
+abbrev pub delays : (d T : ℕ) → Below 2 → ℕ
 delays d T = delaysWith (K d T) (2 ∷ 1 ∷ [])
 
-counted : (d T : ℕ) → Counted (K d T) (2 ∷ 1 ∷ [])
+pub counted : (d T : ℕ) → Counted (K d T) (2 ∷ 1 ∷ [])
 unfolding front table sheet-dec ℕ-discrete decLe decLt
 counted d T = record {
   sound = sound-by (K d T) (2 ∷ 1 ∷ []) tt;
@@ -55,7 +55,7 @@ counted d T = record {
 }
 
 -- the round list from 0 and 4 tokens, and from 0 and 3
-round-4 : (T : ℕ) → RoundList (G 4 T) (delays 4 T) (0 ∷ 0 ∷ 1 ∷ [])
+pub round-4 : (T : ℕ) → RoundList (G 4 T) (delays 4 T) (0 ∷ 0 ∷ 1 ∷ [])
 unfolding front table list-dec ℕ-discrete decLe decLt
 round-4 T = by-yes (list-dec (G 4 T) (counted 4 T .sound) _ _ _) tt
 

@@ -1,7 +1,8 @@
--- The rows of document 01's bench table that ask for a plan.
+-- The rows of document 01's bench table.
 use Prim.Native.Nat.{ℕ}
 use mathlib.Core.List.{List, [], _∷_, _++_}
 use lib.ListN.{length, replicate}
+use lib.IntN.{ℤ, pos, negsuc}
 use Rattle.lists.specs.Front.{at}
 use Rattle.dataflow.specs.Runs.{listFrom}
 use Rattle.dataflow.specs.Sheet as columns
@@ -10,9 +11,12 @@ use Rattle.sheet.specs.declared.Sheet.{Sheet}
 use Rattle.sheet.specs.Format.{padded, bytesOf}
 use Rattle.planner.specs.declared.Planning.{Planning}
 use Rattle.planner.specs.Plan.{refusedBy, Plans}
+use Rattle.hand.specs.declared.HandPeriod.{HandPeriod}
+use Rattle.hand.specs.Hand.{HandChecks}
+use Rattle.hand.specs.Hand as byHand
 
--- a sheet's bytes, what three lent buffers hold, the answer, and what the buffers hold then
-pub record BenchRow : Type 0 where
+-- a row that asks for a plan: a sheet's bytes, what three lent buffers hold, the answer, and what the buffers hold then
+pub record PlanRow : Type 0 where
   pub bytes : List ℕ
   pub start : List ℕ
   pub round : List ℕ
@@ -22,9 +26,20 @@ pub record BenchRow : Type 0 where
   pub round′ : List ℕ
   pub times′ : List ℕ
 
--- what the planner owes of a row
+-- a row that asks for a hand check: a sheet's bytes, the hand list, the answer
+pub record HandRow : Type 0 where
+  pub bytes : List ℕ
+  pub list : List ℤ
+  pub result : HandPeriod
+
+pub data BenchRow : Type 0 where
+  planning : PlanRow → BenchRow
+  checking : HandRow → BenchRow
+
+-- what the library owes of a row
 abbrev pub Met : BenchRow → Type 0
-Met b = Plans (b .bytes) (b .start) (b .round) (b .times) (b .result) (b .start′) (b .round′) (b .times′)
+Met (planning b) = Plans (b .bytes) (b .start) (b .round) (b .times) (b .result) (b .start′) (b .round′) (b .times′)
+Met (checking b) = HandChecks (b .bytes) (b .list) (b .result)
 
 -- a sheet as it is written: its stations have the tags 1, 2, ..
 abbrev pub written : columns.Sheet → Sheet
@@ -84,7 +99,7 @@ answer s p = record {
 
 -- a row with a plan; the lent buffers hold 0 and are as long as needed
 abbrev pub accepted : columns.Sheet → Printed → BenchRow
-accepted s p = record {
+accepted s p = planning (record {
   bytes = bytesOf (written s);
   start = replicate (length (p .start)) 0;
   round = replicate (length (p .round)) 0;
@@ -93,11 +108,18 @@ accepted s p = record {
   start′ = p .start;
   round′ = p .round;
   times′ = p .times;
-}
+})
 
 -- a row with a refusal; nothing is lent
 abbrev pub refused : columns.Sheet → (number : ℕ) → BenchRow
-refused s number = record { bytes = bytesOf (written s); start = []; round = []; times = []; result = refusedBy number 0; start′ = []; round′ = []; times′ = [] }
+refused s number = planning (record { bytes = bytesOf (written s); start = []; round = []; times = []; result = refusedBy number 0; start′ = []; round′ = []; times′ = [] })
+
+-- a hand row with a period, and one with a refusal
+abbrev pub handAccepted : columns.Sheet → List ℤ → (period : ℕ) → BenchRow
+handAccepted s l period = checking (record { bytes = bytesOf (written s); list = l; result = record { number = 0; place = 0; period = period } })
+
+abbrev pub handRefused : columns.Sheet → List ℤ → (number place : ℕ) → BenchRow
+handRefused s l number place = checking (record { bytes = bytesOf (written s); list = l; result = byHand.refusedBy number place })
 
 -- the plan of a sheet that is in time as it is: nothing is retimed, and nothing is fired before the first round
 abbrev pub asGiven : (s : columns.Sheet) (period : ℕ) (count round times : List ℕ) → Printed
@@ -159,4 +181,6 @@ benchTable =
     ∷ refused (lone 1 (queue 0 0 1 2 0 ∷ []) 1) 7
     ∷ acceptedAsGiven (fan 63) 2 (1 ∷ 64 ∷ 64 ∷ 64 ∷ 63 ∷ []) fanRound (0 ∷ replicate 255 1)
     ∷ refused (fan 64) 7
+    ∷ handAccepted (K 4 3) (negsuc 1 ∷ pos 0 ∷ []) 3
+    ∷ handRefused (K 4 3) (pos 0 ∷ negsuc 0 ∷ []) 13 0
     ∷ []
