@@ -1,8 +1,12 @@
 // Questions on standard input, answers on standard output.
+mod checking;
 mod dispatching;
 mod lending;
+mod moving;
 mod planning;
 mod reading;
+mod signs;
+mod tracing;
 mod writing;
 
 ghost use Prim.Native.Nat.{_≤_, _<_};
@@ -21,6 +25,9 @@ fn answer(kind: u8, body: &[u8]) {
         2 => lending::answer(body),
         3 => reading::answer(body),
         4 => writing::answer(body),
+        5 => checking::answer(body),
+        6 => moving::answer(body),
+        7 => tracing::answer(body),
         8 => dispatching::answer(body),
         _ => malformed(),
     }
