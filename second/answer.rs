@@ -10,6 +10,9 @@ mod dispatch;
 mod fields;
 mod finishes;
 mod firing;
+mod hand;
+mod one_move;
+mod origin;
 mod plan;
 mod planning;
 mod printed;
@@ -52,6 +55,9 @@ fn answer(question: &Question) -> Option<String> {
         2 => plan::answer_lent(question.body),
         3 => Some(read::answer(question.body)),
         4 => write::answer(question.body),
+        5 => hand::answer(question.body),
+        6 => one_move::answer(question.body),
+        7 => origin::answer(question.body),
         8 => dispatch::answer(question.body),
         _ => None,
     }

@@ -9,17 +9,9 @@ const MOST_ENTRIES: u16 = 1_000;
 pub fn answer(body: &[u8]) -> Option<String> {
     let mut fields = Fields::of(body);
     let done = fields.u64()?;
-    let start = list(&mut fields)?;
-    let round = list(&mut fields)?;
+    let start = fields.list(MOST_ENTRIES, Fields::u16)?;
+    let round = fields.list(MOST_ENTRIES, Fields::u16)?;
     fields.at_end().then(|| printed::list("part", part(done, &start, &round)))
-}
-
-fn list(fields: &mut Fields) -> Option<Vec<u16>> {
-    let length = fields.u16()?;
-    if length > MOST_ENTRIES {
-        return None;
-    }
-    (0..length).map(|_| fields.u16()).collect()
 }
 
 fn part<'a>(done: u64, start: &'a [u16], round: &'a [u16]) -> &'a [u16] {

@@ -30,6 +30,24 @@ impl<'a> Fields<'a> {
         Some(u64::from(self.u32()?) + (u64::from(self.u32()?) << 32))
     }
 
+    /// The same four bytes as a number of either sign.
+    pub fn i32(&mut self) -> Option<i32> {
+        Some(self.u32()? as i32)
+    }
+
+    /// A length of at most `most`, and that many entries.
+    pub fn list<T>(
+        &mut self,
+        most: u16,
+        entry: impl Fn(&mut Fields<'a>) -> Option<T>,
+    ) -> Option<Vec<T>> {
+        let length = self.u16()?;
+        if length > most {
+            return None;
+        }
+        (0..length).map(|_| entry(self)).collect()
+    }
+
     /// What is left of the body.
     pub fn rest(&self) -> &'a [u8] {
         self.rest

@@ -11,6 +11,11 @@ pub fn of(sheet: &Sheet, copies: &Copies) -> Vec<u64> {
     (0..known.len()).map(|copy| finish(copy, sheet, copies, &mut known)).collect()
 }
 
+/// The largest finish, because a path that sums to the most ends somewhere.
+pub fn period(finishes: &[u64]) -> u64 {
+    finishes.iter().copied().max().unwrap_or(0)
+}
+
 fn finish(copy: usize, sheet: &Sheet, copies: &Copies, known: &mut [Option<u64>]) -> u64 {
     if let Some(finish) = known[copy] {
         return finish;

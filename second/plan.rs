@@ -25,8 +25,5 @@ pub fn answer_lent(body: &[u8]) -> Option<String> {
 }
 
 fn lines(sheet: &[u8], buffers: &mut Buffers) -> String {
-    match planning::plan(sheet, buffers) {
-        Ok(plan) => printed::lines(&plan),
-        Err(refusal) => refusal::line(&refusal),
-    }
+    refusal::told(planning::plan(sheet, buffers).map(|plan| printed::lines(&plan)))
 }

@@ -5,10 +5,7 @@ use crate::sheet::{self, Sheet};
 
 /// Any body is a sheet or refused, so that none is malformed.
 pub fn answer(body: &[u8]) -> String {
-    match sheet::read(body) {
-        Ok(sheet) => lines(&sheet),
-        Err(refusal) => refusal::line(&refusal),
-    }
+    refusal::told(sheet::read(body).map(|sheet| lines(&sheet)))
 }
 
 fn lines(sheet: &Sheet) -> String {

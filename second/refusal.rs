@@ -13,10 +13,19 @@ pub enum Refusal {
     NoRetiming,
     ListStuck,
     Room,
+    Hand,
+    /// Holds the lowest queue with a new delay below 0.
+    Negative(usize),
+    Slow,
+    Token,
 }
 
-/// Every refusal is printed here, whichever question met it.
-pub fn line(refusal: &Refusal) -> String {
+/// The lines of an answer, or the line of the refusal, whichever question met it.
+pub fn told(answer: Result<String, Refusal>) -> String {
+    answer.unwrap_or_else(|refusal| line(&refusal))
+}
+
+fn line(refusal: &Refusal) -> String {
     let (number, word, place) = match refusal {
         Refusal::Short => (1, "short", 0),
         Refusal::Version => (2, "version", 0),
@@ -29,6 +38,10 @@ pub fn line(refusal: &Refusal) -> String {
         Refusal::NoRetiming => (9, "no-retiming", 0),
         Refusal::ListStuck => (10, "list-stuck", 0),
         Refusal::Room => (11, "room", 0),
+        Refusal::Hand => (12, "hand", 0),
+        Refusal::Negative(queue) => (13, "negative", *queue),
+        Refusal::Slow => (14, "slow", 0),
+        Refusal::Token => (15, "token", 0),
     };
     format!("refused {number} {word} place {place}\n")
 }

@@ -26,7 +26,7 @@ pub fn search(ready: &Ready) -> Option<Found> {
         let delays = legal_delays(sheet, &retiming);
         let copies = copies::of(sheet, counts, &delays);
         let finishes = finishes::of(sheet, &copies);
-        let period = finishes.iter().copied().max().unwrap_or(0);
+        let period = finishes::period(&finishes);
         if period <= u64::from(sheet.target) {
             return Some(Found { retiming, delays, period, rounds });
         }
@@ -44,6 +44,5 @@ pub fn search(ready: &Ready) -> Option<Found> {
 /// more than it holds.
 fn legal_delays(sheet: &Sheet, retiming: &[usize]) -> Vec<usize> {
     let retiming: Vec<i64> = retiming.iter().map(|&raised| raised as i64).collect();
-    let delays = retiming::new_delays(sheet, &retiming).into_iter();
-    delays.map(|delay| usize::try_from(delay).expect("the search stays legal")).collect()
+    retiming::legal_delays(sheet, &retiming).expect("the search stays legal")
 }

@@ -24,10 +24,8 @@ struct Request {
 pub fn answer(body: &[u8]) -> Option<String> {
     let request = take_apart(body)?;
     let mut buffer = vec![FILLER; request.lent];
-    let mut text = match write(&request, &mut buffer) {
-        Ok(length) => format!("written {length}\n"),
-        Err(refusal) => refusal::line(&refusal),
-    };
+    let written = write(&request, &mut buffer);
+    let mut text = refusal::told(written.map(|length| format!("written {length}\n")));
     text.push_str(&buffer_line(&buffer));
     Some(text)
 }
@@ -39,17 +37,9 @@ fn take_apart(body: &[u8]) -> Option<Request> {
     let m = fields.u16()?;
     let target = fields.u32()?;
     let lent = fields.u32()?;
-    let a = fields.u16()?;
-    if lent > MOST_LENT || a > MOST_STATIONS {
-        return None;
-    }
-    let stations = (0..a).map(|_| station(&mut fields)).collect::<Option<Vec<Station>>>()?;
-    let b = fields.u16()?;
-    if b > MOST_QUEUES {
-        return None;
-    }
-    let queues = (0..b).map(|_| queue(&mut fields)).collect::<Option<Vec<Queue>>>()?;
-    if !fields.at_end() {
+    let stations = fields.list(MOST_STATIONS, station)?;
+    let queues = fields.list(MOST_QUEUES, queue)?;
+    if lent > MOST_LENT || !fields.at_end() {
         return None;
     }
     Some(Request { version, n, m, target, lent: lent as usize, stations, queues })
