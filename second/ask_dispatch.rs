@@ -48,7 +48,7 @@ pub fn systematic(stream: &mut Stream) {
     for (start, round) in [(1_000, 0), (0, 1_000), (1_001, 0), (0, 1_001), (1_001, 1_001)] {
         stream.ask(8, &numbered(999, start, round).body());
     }
-    lengths(stream);
+    stream.ask_lengths(8, &numbered(1, 3, 2).body(), 3);
     told_lengths(stream);
 }
 
@@ -63,16 +63,6 @@ fn around(start: u16, round: u16) -> Vec<u64> {
     all.sort();
     all.dedup();
     all
-}
-
-/// A body and its beginnings, then the same with more bytes behind it.
-fn lengths(stream: &mut Stream) {
-    let mut bytes = numbered(1, 3, 2).body();
-    let whole = bytes.len();
-    bytes.resize(whole + 3, 0);
-    for length in 0..=bytes.len() {
-        stream.ask(8, &bytes[..length]);
-    }
 }
 
 fn told_lengths(stream: &mut Stream) {

@@ -2,8 +2,8 @@
 
 use crate::draft::Draft;
 use crate::random::Random;
-use crate::shapes::{chain, common_divisor, joined, timed};
-use crate::{bench_rows, damage, edges, slow, undone, Stream};
+use crate::shapes::{longest_row, timed};
+use crate::{bench_rows, damage, refused, slow, undone, Stream};
 
 const MOST_LENT: [u32; 3] = [65_536, 256, 256];
 
@@ -13,32 +13,22 @@ struct Needing {
     entries: [u32; 3],
 }
 
-fn body(lent: [u32; 3], sheet: &[u8]) -> Vec<u8> {
-    let mut bytes = lent.map(u32::to_le_bytes).concat();
-    bytes.extend_from_slice(sheet);
-    bytes
+/// What stands before the sheet.
+fn head(lent: [u32; 3]) -> Vec<u8> {
+    lent.map(u32::to_le_bytes).concat()
 }
 
 pub fn systematic(stream: &mut Stream) {
-    lengths(stream);
+    stream.ask_lengths(2, &[head([5, 6, 7]), bench_rows::sample().sheet()].concat(), 0);
     all_around(stream);
     for Needing { draft, entries } in needing() {
         let sheet = draft.sheet();
         for lent in around(entries) {
-            stream.ask(2, &body(lent, &sheet));
+            stream.ask_about(2, &head(lent), &sheet);
         }
     }
     limits(stream);
     refused(stream);
-}
-
-/// The sample's body and its beginnings, of which those with less than the three lengths are
-/// malformed.
-fn lengths(stream: &mut Stream) {
-    let bytes = body([5, 6, 7], &bench_rows::sample().sheet());
-    for length in 0..=bytes.len() {
-        stream.ask(2, &bytes[..length]);
-    }
 }
 
 /// Each buffer of the sample one short, just enough and one more, all together.
@@ -47,19 +37,18 @@ fn all_around(stream: &mut Stream) {
     for start in 1..=3 {
         for round in 2..=4 {
             for times in 2..=4 {
-                stream.ask(2, &body([start, round, times], &sheet));
+                stream.ask_about(2, &head([start, round, times]), &sheet);
             }
         }
     }
 }
 
 fn needing() -> Vec<Needing> {
-    let row = timed(vec![10; 32], chain(&[(1, 1); 31]));
     vec![
-        Needing { draft: Draft::of(7, vec![[1, 7]], vec![]), entries: [0, 1, 1] },
+        Needing { draft: bench_rows::alone(7), entries: [0, 1, 1] },
         Needing { draft: bench_rows::k(4, 5), entries: [0, 3, 3] },
         Needing { draft: bench_rows::sample(), entries: [2, 3, 3] },
-        Needing { draft: row, entries: [496, 32, 32] },
+        Needing { draft: longest_row(), entries: [496, 32, 32] },
         Needing { draft: long_start(), entries: [5_974, 256, 256] },
         Needing { draft: slow::most_rounds(), entries: [1, 256, 256] },
     ]
@@ -96,42 +85,27 @@ fn limits(stream: &mut Stream) {
         for lent in [MOST_LENT[place] + 1, 1 << 31, u32::MAX] {
             let mut changed = MOST_LENT;
             changed[place] = lent;
-            stream.ask(2, &body(changed, &sheet));
+            stream.ask_about(2, &head(changed), &sheet);
         }
     }
 }
 
 /// Sheets of every earlier refusal, which comes before missing room and leaves the buffers alone.
 fn refused(stream: &mut Stream) {
-    let mut drafts = vec![
-        Draft { version: 2, ..bench_rows::sample() },
-        Draft { zero: 1, ..bench_rows::sample() },
-        Draft { queue_offset: 20, ..bench_rows::sample() },
-        edges::longest_bad(63),
-        joined(2, vec![]),
-        joined(2, vec![[0, 1, 1, 1, 0], [0, 1, 1, 2, 0]]),
-    ];
-    drafts.extend([bench_rows::k(1, 9), bench_rows::k(3, 4), bench_rows::k(4, 2)]);
-    for draft in drafts {
-        for lent in [[0; 3], [3, 2, 1], [100; 3]] {
-            stream.ask(2, &body(lent, &draft.sheet()));
+    let heads = [head([0; 3]), head([100; 3])];
+    refused::ask(2, &heads, stream);
+    for draft in [bench_rows::k(3, 4), bench_rows::k(4, 2)] {
+        for head in &heads {
+            stream.ask_about(2, head, &draft.sheet());
         }
     }
 }
 
 pub fn random_body(random: &mut Random) -> Vec<u8> {
-    let counts = undone::random_counts(random);
-    let mut draft = undone::with_counts(&counts, random);
-    if random.one_in(10) {
-        damage::perhaps_draft(&mut draft, random);
-    }
-    let firings = counts.iter().sum::<usize>() / counts.iter().copied().fold(0, common_divisor);
+    let known = undone::random(random);
+    let firings = known.counts.iter().sum();
     let lent = [random_start(random), random_lent(firings, random), random_lent(firings, random)];
-    let mut bytes = body(lent.map(|entries| entries as u32), &draft.sheet());
-    if random.one_in(10) {
-        damage::perhaps_bytes(&mut bytes, random);
-    }
-    bytes
+    damage::seldom(&head(lent.map(|entries| entries as u32)), known.draft, random)
 }
 
 /// Small start lists are the most frequent ones.

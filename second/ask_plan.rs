@@ -7,9 +7,7 @@ use crate::{
     ask_read, balanced, bench_rows, damage, edges, islands, loops, paths, rates, slow, tight,
     undone, Stream,
 };
-use std::collections::HashSet;
 
-/// Sheets that several groups hold are asked once.
 pub fn systematic(stream: &mut Stream) {
     let mut sheets: Vec<Vec<u8>> = bench_rows::all().iter().map(Draft::sheet).collect();
     sheets.extend(lengths());
@@ -27,11 +25,8 @@ pub fn systematic(stream: &mut Stream) {
         slow::all(),
     ];
     sheets.extend(groups.iter().flatten().map(Draft::sheet));
-    let mut asked = HashSet::new();
     for sheet in &sheets {
-        if asked.insert(sheet) {
-            stream.ask(1, sheet);
-        }
+        stream.ask(1, sheet);
     }
 }
 
@@ -79,24 +74,14 @@ fn several_refusals() -> Vec<Draft> {
 }
 
 pub fn random_body(random: &mut Random) -> Vec<u8> {
-    let mut draft = match random.below(24) {
+    let draft = match random.below(24) {
         0 | 1 => return ask_read::random_body(random),
         2 | 3 => random_chain(random),
-        4..=13 => balanced::random(random),
+        4..=13 => balanced::random(random).draft,
         14 => slow::random(random),
-        _ => undone::random(random),
+        _ => undone::random(random).draft,
     };
-    if random.one_in(12) {
-        spoil(&mut draft, random);
-    }
-    if random.one_in(8) {
-        damage::perhaps_draft(&mut draft, random);
-    }
-    let mut bytes = draft.sheet();
-    if random.one_in(8) {
-        damage::perhaps_bytes(&mut bytes, random);
-    }
-    bytes
+    damage::seldom(&[], draft, random)
 }
 
 /// A chain of any rates, whose counts are soon immense.
@@ -105,18 +90,4 @@ fn random_chain(random: &mut Random) -> Draft {
     let most = *random.pick(&[2, 3, 4, 64]);
     let mut rate = || 1 + random.below(most) as u16;
     chained(&(0..length).map(|_| (rate(), rate())).collect::<Vec<(u16, u16)>>())
-}
-
-/// Takes a queue away, or changes one of its rates.
-fn spoil(draft: &mut Draft, random: &mut Random) {
-    if draft.queues.is_empty() {
-        return;
-    }
-    let place = random.below(draft.queues.len());
-    if random.one_in(3) {
-        draft.queues.remove(place);
-        draft.m -= 1;
-    } else {
-        draft.queues[place][2 + random.below(2)] = 1 + random.below(64) as u16;
-    }
 }

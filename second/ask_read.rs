@@ -23,14 +23,9 @@ pub fn systematic(stream: &mut Stream) {
     longest(stream);
 }
 
-/// The sample and its beginnings, then the sample with more bytes behind it; the base one byte
-/// short and one byte long.
+/// Around the sample and its beginnings; the base one byte short and one byte long.
 fn lengths(stream: &mut Stream) {
-    let mut bytes = bench_rows::sample().sheet();
-    bytes.resize(60, 0);
-    for length in 0..=60 {
-        stream.ask(3, &bytes[..length]);
-    }
+    stream.ask_lengths(3, &bench_rows::sample().sheet(), 12);
     let mut sheet = edges::base().sheet();
     sheet.push(1);
     stream.ask(3, &sheet);

@@ -50,7 +50,7 @@ pub fn systematic(stream: &mut Stream) {
     for row in bench_rows::all() {
         stream.ask(4, &Request::roomy(row).body());
     }
-    lengths(stream);
+    stream.ask_lengths(4, &Request::roomy(bench_rows::sample()).body(), 12);
     let groups =
         [edges::header_edits(), edges::sized_edits(), edges::target_edits(), record_edits()];
     for draft in groups.into_iter().flatten() {
@@ -65,16 +65,6 @@ pub fn systematic(stream: &mut Stream) {
     lent(stream);
     several_refusals(stream);
     told_counts(stream);
-}
-
-/// The sample's body and its beginnings, then the same with more bytes behind it.
-fn lengths(stream: &mut Stream) {
-    let mut bytes = Request::roomy(bench_rows::sample()).body();
-    let whole = bytes.len();
-    bytes.resize(whole + 12, 0);
-    for length in 0..=bytes.len() {
-        stream.ask(4, &bytes[..length]);
-    }
 }
 
 /// One record too few or too many for the header's n and m, and one of each exchanged.

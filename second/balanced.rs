@@ -2,13 +2,14 @@
 //! large as their loops need.
 
 use crate::draft::Draft;
+use crate::known::Known;
 use crate::random::Random;
 use crate::shapes::{common_divisor, timed};
 
 const LARGEST_RATE: usize = 64;
 const LARGEST_DELAY: usize = 4_095;
 
-pub fn random(random: &mut Random) -> Draft {
+pub fn random(random: &mut Random) -> Known {
     let counts = random_counts(random);
     let queues = random_ends(&counts, random)
         .into_iter()
@@ -16,9 +17,8 @@ pub fn random(random: &mut Random) -> Draft {
         .collect();
     let times: Vec<u16> = counts.iter().map(|_| random_time(random)).collect();
     let target = random_target(&times, random);
-    let mut draft = Draft { target, ..timed(times, queues) };
-    renumber(&mut draft, random);
-    draft
+    let draft = Draft { target, ..timed(times, queues) };
+    Known::of(draft, &counts, &vec![0; counts.len()], random)
 }
 
 /// Mostly few and small counts, now and then a sum close to 256, many stations, or counts whose
@@ -139,25 +139,4 @@ fn random_target(times: &[u16], random: &mut Random) -> u32 {
         1 => random.below(12) as u32,
         _ => u32::from(largest) + random.below(1 + sum as usize / 2) as u32,
     }
-}
-
-/// Gives the stations other numbers and the queues another order.
-pub fn renumber(draft: &mut Draft, random: &mut Random) {
-    let numbers: Vec<u16> = shuffled((0..draft.n).collect(), random);
-    let before = draft.stations.clone();
-    for (station, &number) in before.into_iter().zip(&numbers) {
-        draft.stations[usize::from(number)] = station;
-    }
-    for queue in &mut draft.queues {
-        queue[0] = numbers[usize::from(queue[0])];
-        queue[1] = numbers[usize::from(queue[1])];
-    }
-    draft.queues = shuffled(std::mem::take(&mut draft.queues), random);
-}
-
-fn shuffled<T>(mut list: Vec<T>, random: &mut Random) -> Vec<T> {
-    for place in 1..list.len() {
-        list.swap(place, random.below(place + 1));
-    }
-    list
 }

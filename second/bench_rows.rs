@@ -11,12 +11,17 @@ pub fn sample() -> Draft {
     k(4, 3)
 }
 
+/// One station of time 7 without a queue.
+pub fn alone(target: u32) -> Draft {
+    Draft::of(target, vec![[1, 7]], vec![])
+}
+
 pub fn all() -> Vec<Draft> {
     let mut rows: Vec<Draft> = [(4, 5), (4, 4), (4, 3), (4, 2), (3, 5), (3, 4), (1, 9)]
         .into_iter()
         .map(|(delay, target)| k(delay, target))
         .collect();
-    rows.extend([7, 6].map(|target| Draft::of(target, vec![[1, 7]], vec![])));
+    rows.extend([7, 6].map(alone));
     rows.extend([1, 2].map(|consumed| Draft::of(1, vec![[1, 1]], vec![[0, 0, 1, consumed, 0]])));
     rows.extend([63, 64].map(fan));
     rows

@@ -1,11 +1,41 @@
 //! Random damage, to the fields of a draft or to the bytes made of it. About half of what goes
 //! through both is left whole.
 
-use crate::draft::Draft;
+use crate::draft::{Draft, CONSUMED, PRODUCED};
 use crate::random::Random;
 
 const BOUNDARIES: [u16; 16] =
     [0, 1, 2, 3, 31, 32, 33, 63, 64, 65, 255, 256, 4_095, 4_096, 32_768, 65_535];
+
+/// A body of these bytes and the draft's sheet, mostly without damage.
+pub fn seldom(head: &[u8], mut draft: Draft, random: &mut Random) -> Vec<u8> {
+    if random.one_in(12) {
+        spoil(&mut draft, random);
+    }
+    if random.one_in(8) {
+        perhaps_draft(&mut draft, random);
+    }
+    let mut bytes = [head, &draft.sheet()].concat();
+    if random.one_in(8) {
+        perhaps_bytes(&mut bytes, random);
+    }
+    bytes
+}
+
+/// Takes a queue away, or changes one of its rates.
+fn spoil(draft: &mut Draft, random: &mut Random) {
+    if draft.queues.is_empty() {
+        return;
+    }
+    let place = random.below(draft.queues.len());
+    if random.one_in(3) {
+        draft.queues.remove(place);
+        draft.m -= 1;
+    } else {
+        let rate = *random.pick(&[PRODUCED, CONSUMED]);
+        draft.queues[place][rate] = 1 + random.below(64) as u16;
+    }
+}
 
 pub fn perhaps_draft(draft: &mut Draft, random: &mut Random) {
     while random.one_in(3) {

@@ -10,14 +10,9 @@ pub fn all() -> Vec<Draft> {
 /// Times of 0 and 65,535 alone, together and along the longest paths.
 fn times() -> Vec<Draft> {
     let flat = |n: usize, time| timed(vec![time; n], chain(&vec![(1, 1); n - 1]));
-    let serial = |time| {
-        let own = |station| [station, station, 64, 64, 64];
-        let queues = [chain(&[(15, 1), (16, 1)]), vec![own(0), own(1), own(2)]].concat();
-        timed(vec![65_535, 0, time], queues)
-    };
     let mut drafts = Vec::new();
     for time in [0, 1, 65_535] {
-        drafts.extend([flat(1, time), flat(2, time), flat(32, time), serial(time)]);
+        drafts.extend([flat(1, time), flat(2, time), flat(32, time), serial([65_535, 0, time])]);
     }
     let k = |first, second, delay| {
         timed(vec![first, second], vec![[0, 1, 1, 2, 0], [1, 0, 2, 1, delay]])
@@ -26,6 +21,13 @@ fn times() -> Vec<Draft> {
         drafts.extend([k(first, second, 2), k(first, second, 3), k(first, second, 4)]);
     }
     drafts
+}
+
+/// Counts 1, 15 and 240, with copies that wait for each other.
+pub fn serial(times: [u16; 3]) -> Draft {
+    let own = |station| [station, station, 64, 64, 64];
+    let queues = [chain(&[(15, 1), (16, 1)]), vec![own(0), own(1), own(2)]].concat();
+    timed(times.to_vec(), queues)
 }
 
 /// Two arms of which either may be the longer, with and without tokens on one of them.
@@ -113,7 +115,7 @@ fn far() -> Vec<Draft> {
 }
 
 /// About as many tokens in a round as a sheet can have, with enough in all queues or one short.
-fn heavy() -> Vec<Draft> {
+pub fn heavy() -> Vec<Draft> {
     let tokens = |delay: u16| {
         let own = (0..62).map(|i| [0, 0, 64, 64, 64 * (1 + i % 4)]);
         let mut queues: Vec<[u16; 5]> = own.chain(chain(&[(1, 62), (3, 4)])).collect();

@@ -2,8 +2,11 @@
 //! for every seed, then a random part. The last of the COUNT questions is cut off in its middle.
 
 mod ask_dispatch;
+mod ask_hand;
 mod ask_lent;
 mod ask_malformed;
+mod ask_move;
+mod ask_origin;
 mod ask_plan;
 mod ask_read;
 mod ask_write;
@@ -12,31 +15,54 @@ mod bench_rows;
 mod damage;
 mod draft;
 mod edges;
+mod hand_lists;
 mod islands;
+mod known;
+mod legal;
 mod loops;
 mod paths;
+mod planned;
 mod random;
 mod rates;
+mod refused;
 mod shapes;
 mod slow;
 mod tight;
 mod undone;
 
 use random::Random;
+use std::collections::HashSet;
 use std::io::{self, Write};
 use std::process::ExitCode;
 
-/// Holds questions up to a count; those beyond it fall away.
+/// Holds questions up to a count. Those beyond it fall away, and those asked before.
 pub struct Stream {
     bytes: Vec<u8>,
+    asked: HashSet<Vec<u8>>,
     left: usize,
 }
 
 impl Stream {
     pub fn ask(&mut self, kind: u8, body: &[u8]) {
-        if self.left > 0 {
+        let question = question(kind, body);
+        if self.left > 0 && !self.asked.contains(&question) {
             self.left -= 1;
-            self.bytes.extend_from_slice(&question(kind, body));
+            self.bytes.extend_from_slice(&question);
+            self.asked.insert(question);
+        }
+    }
+
+    /// A question whose body ends in a sheet.
+    pub fn ask_about(&mut self, kind: u8, head: &[u8], sheet: &[u8]) {
+        self.ask(kind, &[head, sheet].concat());
+    }
+
+    /// Every beginning of a body, all of it, and then up to `more` bytes behind it.
+    pub fn ask_lengths(&mut self, kind: u8, body: &[u8], more: usize) {
+        let mut bytes = body.to_vec();
+        bytes.resize(body.len() + more, 0);
+        for length in 0..=bytes.len() {
+            self.ask(kind, &bytes[..length]);
         }
     }
 }
@@ -69,11 +95,14 @@ fn stream(seed: u64, count: usize) -> Vec<u8> {
         return Vec::new();
     }
     let mut random = Random::from_seed(seed);
-    let mut stream = Stream { bytes: Vec::new(), left: count - 1 };
+    let mut stream = Stream { bytes: Vec::new(), asked: HashSet::new(), left: count - 1 };
     ask_read::systematic(&mut stream);
     ask_write::systematic(&mut stream);
     ask_plan::systematic(&mut stream);
     ask_lent::systematic(&mut stream);
+    ask_hand::systematic(&mut stream);
+    ask_move::systematic(&mut stream);
+    ask_origin::systematic(&mut stream);
     ask_dispatch::systematic(&mut stream);
     ask_malformed::systematic(&mut stream);
     while stream.left > 0 {
@@ -84,11 +113,14 @@ fn stream(seed: u64, count: usize) -> Vec<u8> {
 }
 
 fn random_question(random: &mut Random, stream: &mut Stream) {
-    match random.below(10) {
+    match random.below(20) {
         0 | 1 => stream.ask(2, &ask_lent::random_body(random)),
         2 => stream.ask(3, &ask_read::random_body(random)),
         3 => stream.ask(4, &ask_write::random_body(random)),
         4 => stream.ask(8, &ask_dispatch::random_body(random)),
+        5..=9 => stream.ask(5, &ask_hand::random_body(random)),
+        10 | 11 => stream.ask(6, &ask_move::random_body(random)),
+        12..=14 => stream.ask(7, &ask_origin::random_body(random)),
         _ => stream.ask(1, &ask_plan::random_body(random)),
     }
 }
@@ -96,7 +128,7 @@ fn random_question(random: &mut Random, stream: &mut Stream) {
 /// The beginning of a question: a part of its head, or its head and less body than that tells of.
 fn cut_question(random: &mut Random) -> Vec<u8> {
     let body = ask_read::random_valid_body(random);
-    let mut bytes = question(*random.pick(&[1, 2, 3, 4, 8]), &body);
+    let mut bytes = question(*random.pick(&[1, 2, 3, 4, 5, 6, 7, 8]), &body);
     match random.below(4) {
         0 | 1 => bytes.truncate(1 + random.below(4)),
         2 => bytes.truncate(5 + random.below(body.len())),

@@ -25,6 +25,16 @@ impl Random {
         self.below(bound) == 0
     }
 
+    /// A number of this size, mostly below 0.
+    pub fn signed(&mut self, size: usize) -> i32 {
+        let number = size as i32;
+        if self.one_in(3) {
+            number
+        } else {
+            -number
+        }
+    }
+
     pub fn pick<'a, T>(&mut self, from: &'a [T]) -> &'a T {
         &from[self.below(from.len())]
     }

@@ -2,7 +2,7 @@
 
 use crate::draft::Draft;
 
-pub const TARGET: u32 = 10;
+const TARGET: u32 = 10;
 
 /// A draft of n stations with small times, neighbours' times being different.
 pub fn joined(n: usize, queues: Vec<[u16; 5]>) -> Draft {
@@ -21,6 +21,11 @@ pub fn chain(rates: &[(u16, u16)]) -> Vec<[u16; 5]> {
         .zip(0..)
         .map(|(&(produced, consumed), i)| [i, i + 1, produced, consumed, 0])
         .collect()
+}
+
+/// 32 stations in a row without delay, each of which takes as long as the target.
+pub fn longest_row() -> Draft {
+    timed(vec![TARGET as u16; 32], chain(&[(1, 1); 31]))
 }
 
 /// The same queues with the numbers of the n stations turned round.

@@ -2,53 +2,34 @@
 //! that serve, by undoing a random retiming.
 
 use crate::balanced;
-use crate::draft::Draft;
+use crate::draft::{Draft, DELAY};
+use crate::known::Known;
+use crate::legal;
 use crate::random::Random;
 use crate::shapes::timed;
 
 const LARGEST_DELAY: i64 = 4_095;
 
-/// A queue with the delay that it has in the retimed sheet.
-struct Retimed {
-    source: usize,
-    sink: usize,
-    produced: i64,
-    consumed: i64,
-    delay: i64,
-}
-
-impl Retimed {
-    fn undone(&self, retiming: &[i64]) -> i64 {
-        self.delay - self.consumed * retiming[self.sink] + self.produced * retiming[self.source]
-    }
-}
-
-pub fn random(random: &mut Random) -> Draft {
+/// The counts may be more than a plan may have.
+pub fn random(random: &mut Random) -> Known {
     let counts = random_counts(random);
-    with_counts(&counts, random)
-}
-
-/// The counts may have a common divisor, or be more than a plan may have.
-pub fn with_counts(counts: &[usize], random: &mut Random) -> Draft {
     let times: Vec<u16> = random_times(counts.len(), random);
     let size = if random.one_in(2) { 1 } else { 1 + random.below(counts.len().div_ceil(2)) };
-    let queues: Vec<Retimed> = balanced::random_ends(counts, random)
+    let mut queues: Vec<[u16; 5]> = balanced::random_ends(&counts, random)
         .into_iter()
-        .filter_map(|(source, sink)| retimed(source, sink, size, counts, random))
+        .filter_map(|(source, sink)| retimed(source, sink, size, &counts, random))
         .collect();
-    let retiming = random_retiming(counts, &queues, random);
-    let fields = |queue: &Retimed| {
-        let delay = queue.undone(&retiming).min(LARGEST_DELAY);
-        let ends = [queue.source as i64, queue.sink as i64];
-        [ends[0], ends[1], queue.produced, queue.consumed, delay].map(|field| field as u16)
-    };
+    let undoing = random_undoing(&counts, &queues, random);
+    for queue in &mut queues {
+        queue[DELAY] = legal::new_delay(queue, &undoing).min(LARGEST_DELAY) as u16;
+    }
     let target = random_target(&times, size, random);
-    let mut draft = Draft { target, ..timed(times, queues.iter().map(fields).collect()) };
-    balanced::renumber(&mut draft, random);
-    draft
+    let draft = Draft { target, ..timed(times, queues) };
+    let retiming: Vec<i64> = undoing.iter().map(|r| -r).collect();
+    Known::of(draft, &counts, &retiming, random)
 }
 
-pub fn random_counts(random: &mut Random) -> Vec<usize> {
+fn random_counts(random: &mut Random) -> Vec<usize> {
     if random.one_in(8) {
         return balanced::random_counts(random);
     }
@@ -56,15 +37,16 @@ pub fn random_counts(random: &mut Random) -> Vec<usize> {
     (0..2 + random.below(10)).map(|_| 1 + random.below(most)).collect()
 }
 
-/// Stations stand in groups of one size. Inside a group queues to later stations may hold any
-/// delay; all other queues hold a round, so that no path without delay leaves its group.
+/// A queue with its delay in the retimed sheet. Stations stand in groups of one size. Inside a
+/// group queues to later stations may hold any delay; all other queues hold a round, so that no
+/// path without delay leaves its group.
 fn retimed(
     source: usize,
     sink: usize,
     size: usize,
     counts: &[usize],
     random: &mut Random,
-) -> Option<Retimed> {
+) -> Option<[u16; 5]> {
     let (produced, consumed) = balanced::random_rates(source, sink, counts, random)?;
     let round = consumed * counts[sink];
     let delay = match (source < sink && source / size == sink / size, random.below(6)) {
@@ -73,28 +55,21 @@ fn retimed(
         (false, 0) => round + random.below(round),
         (false, _) => round,
     };
-    let (produced, consumed, delay) = (produced as i64, consumed as i64, delay as i64);
-    Some(Retimed { source, sink, produced, consumed, delay })
+    Some([source, sink, produced, consumed, delay].map(|field| field as u16))
 }
 
-/// Any numbers at first, then lowered until no undone delay is negative. They stay at 0 or above,
-/// because all 0 undoes nothing. Those that begin alike except for one 0 leave the tokens close
-/// together.
-fn random_retiming(counts: &[usize], queues: &[Retimed], random: &mut Random) -> Vec<i64> {
+/// Any numbers to 0 at first, then raised until they are legal. They stay at 0 or below, because
+/// all 0 undoes nothing. Those that begin alike except for one 0 leave the tokens close together.
+fn random_undoing(counts: &[usize], queues: &[[u16; 5]], random: &mut Random) -> Vec<i64> {
     let rounds = 1 + random.below(counts.len());
     let still = if random.one_in(3) { random.below(counts.len()) } else { 0 };
     let any = random.one_in(3);
     let number = |(station, count): (usize, &usize)| match station == still {
         true => 0,
-        false if any => random.below(count * rounds + 1) as i64,
-        false => (count * rounds) as i64,
+        false if any => -(random.below(count * rounds + 1) as i64),
+        false => -((count * rounds) as i64),
     };
-    let mut retiming: Vec<i64> = counts.iter().enumerate().map(number).collect();
-    while let Some(queue) = queues.iter().find(|queue| queue.undone(&retiming) < 0) {
-        let missing = -queue.undone(&retiming);
-        retiming[queue.sink] -= (missing + queue.consumed - 1) / queue.consumed;
-    }
-    retiming
+    legal::raised(queues, counts.iter().enumerate().map(number).collect())
 }
 
 /// Mostly all alike or small, so that one firing more or fewer on a path matters.
