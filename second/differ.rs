@@ -7,8 +7,6 @@ mod stream;
 use std::process::ExitCode;
 use stream::Question;
 
-const MOST_DIGITS: usize = 2_000;
-
 fn main() -> ExitCode {
     let arguments: Vec<String> = std::env::args().skip(1).collect();
     let [count, questions, library, second] = arguments.as_slice() else {
@@ -65,8 +63,9 @@ fn first_difference(questions: &[Question], library: &[&[u8]], second: &[&[u8]])
         let answers = (library.get(index), second.get(index));
         if answers.0 != answers.1 || answers.0.is_none() || index >= questions.len() {
             let mut text = told_question(index, questions.get(index));
-            text.push_str(&told_answer("library", answers.0));
-            text.push_str(&told_answer("second program", answers.1));
+            for (who, answers) in [("library", library), ("second program", second)] {
+                text.push_str(&told_answer(who, answers, index, questions.len()));
+            }
             return Some(text);
         }
     }
@@ -87,20 +86,15 @@ fn told_question(index: usize, question: Option<&Question>) -> String {
 }
 
 fn hexadecimal(body: &[u8]) -> String {
-    let shown = body.len().min(MOST_DIGITS / 2);
-    let mut digits: String = body[..shown].iter().map(|byte| format!("{byte:02x}")).collect();
-    if shown < body.len() {
-        digits.push_str("...");
-    }
-    digits
+    body.iter().map(|byte| format!("{byte:02x}")).collect()
 }
 
-fn told_answer(who: &str, answer: Option<&&[u8]>) -> String {
-    match answer {
-        None => format!("--- {who}: no answer, its answers end before this\n"),
-        Some(text) => {
-            let end = if text.ends_with(b"\n") { "" } else { "\n(no newline at its end)\n" };
-            format!("--- {who}:\n{}{end}", String::from_utf8_lossy(text))
-        }
-    }
+fn told_answer(who: &str, answers: &[&[u8]], index: usize, asked: usize) -> String {
+    let Some(text) = answers.get(index) else {
+        return format!("--- {who}: no answer, its answers end before this\n");
+    };
+    let newline = if text.ends_with(b"\n") { "" } else { "\n(no newline at its end)\n" };
+    let last = index + 1 == answers.len() && index + 1 < asked;
+    let end = if last { "(its answers end here)\n" } else { "" };
+    format!("--- {who}:\n{}{newline}{end}", String::from_utf8_lossy(text))
 }

@@ -1,5 +1,8 @@
-//! Writes a question stream: `questions SEED COUNT`. A systematic part comes first and is the same
-//! for every seed, then a random part. The last of the COUNT questions is cut off in its middle.
+//! Writes a question stream.
+//! `questions SEED COUNT`: a systematic part comes first and is the same for every seed, then a
+//! random part. The last of the COUNT questions is cut off in its middle.
+//! `questions --random SEED COUNT`: COUNT sheets to plan, then COUNT questions of other kinds, all
+//! of them random and none cut off.
 
 mod ask_dispatch;
 mod ask_hand;
@@ -8,6 +11,7 @@ mod ask_malformed;
 mod ask_move;
 mod ask_origin;
 mod ask_plan;
+mod ask_random;
 mod ask_read;
 mod ask_write;
 mod balanced;
@@ -76,17 +80,27 @@ fn question(kind: u8, body: &[u8]) -> Vec<u8> {
 
 fn main() -> ExitCode {
     let arguments: Vec<String> = std::env::args().skip(1).collect();
-    let numbers: Vec<u64> = arguments.iter().filter_map(|word| word.parse().ok()).collect();
-    if arguments.len() != 2 || numbers.len() != 2 {
-        eprintln!("usage: questions SEED COUNT");
+    let Some(bytes) = asked_for(&arguments) else {
+        eprintln!("usage: questions [--random] SEED COUNT");
         return ExitCode::FAILURE;
-    }
-    match io::stdout().write_all(&stream(numbers[0], numbers[1] as usize)) {
+    };
+    match io::stdout().write_all(&bytes) {
         Ok(()) => ExitCode::SUCCESS,
         Err(error) => {
             eprintln!("questions: {error}");
             ExitCode::FAILURE
         }
+    }
+}
+
+/// The stream that the arguments ask for, unless they are wrong.
+fn asked_for(arguments: &[String]) -> Option<Vec<u8>> {
+    match arguments {
+        [seed, count] => Some(stream(seed.parse().ok()?, count.parse().ok()?)),
+        [option, seed, count] if option == "--random" => {
+            Some(random_stream(seed.parse().ok()?, count.parse().ok()?))
+        }
+        _ => None,
     }
 }
 
@@ -106,23 +120,22 @@ fn stream(seed: u64, count: usize) -> Vec<u8> {
     ask_dispatch::systematic(&mut stream);
     ask_malformed::systematic(&mut stream);
     while stream.left > 0 {
-        random_question(&mut random, &mut stream);
+        ask_random::any(&mut random, &mut stream);
     }
     stream.bytes.extend_from_slice(&cut_question(&mut random));
     stream.bytes
 }
 
-fn random_question(random: &mut Random, stream: &mut Stream) {
-    match random.below(20) {
-        0 | 1 => stream.ask(2, &ask_lent::random_body(random)),
-        2 => stream.ask(3, &ask_read::random_body(random)),
-        3 => stream.ask(4, &ask_write::random_body(random)),
-        4 => stream.ask(8, &ask_dispatch::random_body(random)),
-        5..=9 => stream.ask(5, &ask_hand::random_body(random)),
-        10 | 11 => stream.ask(6, &ask_move::random_body(random)),
-        12..=14 => stream.ask(7, &ask_origin::random_body(random)),
-        _ => stream.ask(1, &ask_plan::random_body(random)),
+fn random_stream(seed: u64, count: usize) -> Vec<u8> {
+    let mut random = Random::from_seed(seed);
+    let mut stream = Stream { bytes: Vec::new(), asked: HashSet::new(), left: 0 };
+    for ask in [ask_random::sheet, ask_random::other] {
+        stream.left = count;
+        while stream.left > 0 {
+            ask(&mut random, &mut stream);
+        }
     }
+    stream.bytes
 }
 
 /// The beginning of a question: a part of its head, or its head and less body than that tells of.
