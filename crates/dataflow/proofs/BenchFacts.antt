@@ -5,7 +5,7 @@ use Prim.Native.Nat.{ℕ, zero, suc}
 use native.Mathlib.Omega.{arith}
 use native.Mathlib.Decide.{ℕ-discrete, decLe, decLt}
 use lib.Dec.{lit≤, lit<}
-use lib.IntN.{pos, negsuc}
+use lib.IntN.{ℤ, pos, negsuc}
 use Rattle.lists.specs.Front.{at}
 use Rattle.refusals.specs.First.{Lowest}
 use Rattle.dataflow.specs.Net.{Net, Sound}
@@ -14,11 +14,12 @@ use Rattle.dataflow.specs.Places.{placePut}
 use Rattle.dataflow.specs.Copies.{Dependence}
 use Rattle.dataflow.specs.Paths.{alone, step}
 use Rattle.dataflow.specs.Stuck.{Stuck}
-use Rattle.dataflow.specs.Retiming.{newDelay, retimed, whole, byHand}
+use Rattle.dataflow.specs.Retiming.{newDelay, Legal, retimed, whole, byHand}
 use Rattle.dataflow.specs.Lists.{StartList, RoundList}
 use Rattle.dataflow.specs.Runs.{initial, made, initially, after, TakenBy}
 use Rattle.dataflow.specs.Loops.{Way, here, along, loopSum}
 use Rattle.dataflow.specs.Dispatch.{part, firings}
+use Rattle.dataflow.specs.Move.{movedDelay}
 use Rattle.dataflow.specs.Origin.{Origin, was-made, placeTaken}
 use Rattle.dataflow.specs.Promise.{MovePromise}
 use Rattle.dataflow.specs.Refusals.{InHandRange, HandFits, MoveFits, TokenFits, negativeRow}
@@ -27,6 +28,7 @@ use Rattle.dataflow.specs.Samples.{K}
 use Rattle.dataflow.proofs.Below.{upto}
 use Rattle.dataflow.proofs.Decide.{by-yes, list-dec}
 use Rattle.dataflow.proofs.SheetLaws.{sheet-sound, sheet-dec}
+use Rattle.dataflow.proofs.LoopLaws.{loop-sum-stays}
 
 abbrev pub qK : List ℕ
 qK = 2 ∷ 1 ∷ []
@@ -69,6 +71,10 @@ move-of-K = record { copy-is = refl; shift-is = refl }
 
 abbrev pub rK : List ℕ
 rK = 0 ∷ 1 ∷ []
+
+-- the retiming 0 1 moves the copy of station 1 by a round, so its last token crosses one
+moved-of-K : movedDelay (GK 4 3) (whole (at rK)) queue0 2 1 0 ≡ pos 1
+moved-of-K = refl
 
 new-delays-of-K : (newDelay (GK 4 3) (dK 4 3) (whole (at rK)) queue0 ≡ pos 2) × (newDelay (GK 4 3) (dK 4 3) (whole (at rK)) queue1 ≡ pos 2)
 new-delays-of-K = (refl, refl)
@@ -135,6 +141,10 @@ loop-of-K = along queue0 (along queue1 here)
 
 loop-sum-of-K : (loopSum (GK 4 3) (dK 4 3) (queue0 ∷ queue1 ∷ []) ≡ 8) × (loopSum (GK 4 3) (retimed (GK 4 3) (dK 4 3) (whole (at rK))) (queue0 ∷ queue1 ∷ []) ≡ 8)
 loop-sum-of-K = (refl, refl)
+
+-- and by those of every legal retiming
+loop-stays-of-K : (r : ℕ → ℤ) → Legal (GK 4 3) (dK 4 3) r → loopSum (GK 4 3) (retimed (GK 4 3) (dK 4 3) r) (queue0 ∷ queue1 ∷ []) ≡ 8
+loop-stays-of-K r legal = loop-sum-stays (GK 4 3) (sound-K 4 3) (dK 4 3) r legal 0 (queue0 ∷ queue1 ∷ []) loop-of-K (lit< tt)
 
 -- four firings are done: two of the start list, two of the round list, and 1 is left of that
 part-of-K : firings (0 ∷ 0 ∷ []) (0 ∷ 0 ∷ 1 ∷ []) (part 2 3 4) ≡ 1 ∷ []

@@ -1,14 +1,14 @@
 -- Differences and quotients of either sign.
 use Prim.Native.Nat.{ℕ, suc, _+_, _-_, _*_, _/_, _%_, _≤_, _<_, _^_}
 use mathlib.Core.Path.{_≡_, refl, ap, _∙_}
-use native.Mathlib.Nat.{div-le-self, div-add-mod', mod-lt}
+use native.Mathlib.Nat.{div-le-self, div-add-mod', mod-lt, mul-le-mul-left, lt-of-mul-lt-mul-right}
 use native.Mathlib.Omega.{arith}
 use mathlib.Core.Logic.{⊎-elim}
-use lib.Arith.{digits-div}
 use lib.IntN.{ℤ, pos, negsuc, negℤ, natAbs, _-ℤ_}
 use mir.Syntax.{w32}
 use mir.Val.{SFits}
 use Rattle.lists.proofs.Order.{lt-or-ge}
+use Rattle.chain.specs.Ceiling.{Ceiling}
 use Rattle.dataflow.specs.Whole.{up, down}
 use Rattle.dataflow.specs.Move.{floorDiv, floorMod}
 use Rattle.dataflow.specs.Refusals.{InHandRange}
@@ -21,20 +21,20 @@ sub-below a b h = same-number _ _ (omega (arith, sum-is (pos a) (negℤ (pos b))
 pub sub-above : (a b : ℕ) → b ≤ a → pos a -ℤ pos b ≡ pos (a - b)
 sub-above a b h = same-number _ _ (omega (arith, sum-is (pos a) (negℤ (pos b)) .is, up-neg (pos b), down-neg (pos b)))
 
-rounded-up : (n q : ℕ) → 1 ≤ q → (suc n + q - 1) / q ≡ suc (n / q)
-rounded-up n q h =
-    let l : n % q < q = mod-lt n h in
-    let e : suc n + q - 1 ≡ suc (n / q) * q + n % q = omega (arith, div-add-mod' n q) in
-    rw (e, digits-div)
+quotient : (n q r : ℕ) → 1 ≤ q → Ceiling (suc n) q r → r ≡ suc (n / q)
+quotient n q r h c =
+    let l = mod-lt n h in
+    let d = div-add-mod' n q in
+    let low = lt-of-mul-lt-mul-right q {m = n / q} {n = r} (omega (arith, c .enough)) in
+    omega (arith, c .least (suc (n / q)) (omega arith))
 
--- below 0 the quotient is rounded up in size
-pub floor-below : (x : ℤ) (q : ℕ) → Below x → 1 ≤ q → pos 0 -ℤ pos ((down x + q - 1) / q) ≡ floorDiv x q
-floor-below (pos n) q b h = absurd (omega (arith, b .some))
-floor-below (negsuc n) q b h = rw (rounded-up n q h) (sub-below 0 (suc (n / q)) (omega arith) ∙ ap negsuc (omega arith))
+-- below 0 the size of the quotient is rounded up
+pub floor-below : (x : ℤ) (q r : ℕ) → Below x → 1 ≤ q → Ceiling (down x) q r → pos 0 -ℤ pos r ≡ floorDiv x q
+floor-below (pos n) q r b h c = absurd (omega (arith, b .some))
+floor-below (negsuc n) q r b h c = rw (quotient n q r h c) (sub-below 0 (suc (n / q)) (omega arith) ∙ ap negsuc (omega arith))
 
-pub quotient-small : (x : ℤ) (q : ℕ) → Below x → 1 ≤ q → (down x + q - 1) / q ≤ 2 ^ 31
-quotient-small (pos n) q b h = absurd (omega (arith, b .some))
-quotient-small (negsuc n) q b h = omega (arith, rounded-up n q h, div-le-self n q, b .high)
+pub quotient-small : (k q r : ℕ) → 1 ≤ q → Ceiling k q r → r ≤ k
+quotient-small k q r h c = c .least k (omega (arith, mul-le-mul-left k h))
 
 pub floor-above : (x : ℤ) (q : ℕ) → Above x → pos (up x / q) -ℤ pos 0 ≡ floorDiv x q
 floor-above (pos n) q a = ap pos (omega arith)
