@@ -6,6 +6,7 @@ pub use making::plan;
 
 // A refusal's number and place, and every other number 0; or 0, 0 and the plan: its stations and queues, its period, the rounds of the search, back, the lengths of
 // the start list and of the round list; for each station its tag, count, retiming and firings in the start list; for each queue its new delay and its room.
+#[repr(C)]
 pub struct Planning {
     pub number: u32,
     pub place: u32,

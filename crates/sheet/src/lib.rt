@@ -8,6 +8,7 @@ pub use reader::read;
 pub use writer::write;
 
 // A sheet's numbers. Entries past n stations and m queues are 0.
+#[repr(C)]
 pub struct Sheet {
     pub version: u16,
     pub n: usize,
@@ -23,6 +24,7 @@ pub struct Sheet {
 }
 
 // A refusal's number and place with a blank sheet, or 0, 0 and the sheet.
+#[repr(C)]
 pub struct Reading {
     pub number: u32,
     pub place: u32,
@@ -30,6 +32,7 @@ pub struct Reading {
 }
 
 // A refusal's number and place with length 0, or 0, 0 and the sheet's length in bytes.
+#[repr(C)]
 pub struct Written {
     pub number: u32,
     pub place: u32,
