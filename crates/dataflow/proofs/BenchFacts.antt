@@ -5,7 +5,7 @@ use Prim.Native.Nat.{ℕ, zero, suc}
 use native.Mathlib.Omega.{arith}
 use native.Mathlib.Decide.{ℕ-discrete, decLe, decLt}
 use lib.Dec.{lit≤, lit<}
-use lib.IntN.{ℤ, pos, negsuc}
+use lib.IntN.{pos, negsuc}
 use Rattle.lists.specs.Front.{at}
 use Rattle.refusals.specs.First.{Lowest}
 use Rattle.dataflow.specs.Net.{Net, Sound}
@@ -14,7 +14,7 @@ use Rattle.dataflow.specs.Places.{placePut}
 use Rattle.dataflow.specs.Copies.{Dependence}
 use Rattle.dataflow.specs.Paths.{alone, step}
 use Rattle.dataflow.specs.Stuck.{Stuck}
-use Rattle.dataflow.specs.Retiming.{newDelay, Legal, retimed, whole, byHand}
+use Rattle.dataflow.specs.Retiming.{newDelay, retimed, whole, byHand}
 use Rattle.dataflow.specs.Lists.{StartList, RoundList}
 use Rattle.dataflow.specs.Runs.{initial, made, initially, after, TakenBy}
 use Rattle.dataflow.specs.Loops.{Way, here, along, loopSum}
@@ -28,7 +28,6 @@ use Rattle.dataflow.specs.Samples.{K}
 use Rattle.dataflow.proofs.Below.{upto}
 use Rattle.dataflow.proofs.Decide.{by-yes, list-dec}
 use Rattle.dataflow.proofs.SheetLaws.{sheet-sound, sheet-dec}
-use Rattle.dataflow.proofs.LoopLaws.{loop-sum-stays}
 
 abbrev pub qK : List ℕ
 qK = 2 ∷ 1 ∷ []
@@ -39,7 +38,7 @@ GK d T = net (K d T) qK
 abbrev pub dK : (d T : ℕ) → GK d T .Queue → ℕ
 dK d T = delays (K d T) qK
 
-abbrev queue0 : Below 2
+abbrev pub queue0 : Below 2
 queue0 = (0, lit< tt)
 
 abbrev pub queue1 : Below 2
@@ -136,15 +135,11 @@ unfolding ℕ-discrete
 taken-of-K = record { earlier = 0 ∷ 0 ∷ 0 ∷ 0 ∷ []; later = []; order = refl; number = refl; are = refl }
 
 -- round the loop of K(4,3) the sum is 8 by the sheet's delays and by the new ones
-loop-of-K : Way (GK 4 3) 0 0 (queue0 ∷ queue1 ∷ [])
+pub loop-of-K : Way (GK 4 3) 0 0 (queue0 ∷ queue1 ∷ [])
 loop-of-K = along queue0 (along queue1 here)
 
 loop-sum-of-K : (loopSum (GK 4 3) (dK 4 3) (queue0 ∷ queue1 ∷ []) ≡ 8) × (loopSum (GK 4 3) (retimed (GK 4 3) (dK 4 3) (whole (at rK))) (queue0 ∷ queue1 ∷ []) ≡ 8)
 loop-sum-of-K = (refl, refl)
-
--- and by those of every legal retiming
-loop-stays-of-K : (r : ℕ → ℤ) → Legal (GK 4 3) (dK 4 3) r → loopSum (GK 4 3) (retimed (GK 4 3) (dK 4 3) r) (queue0 ∷ queue1 ∷ []) ≡ 8
-loop-stays-of-K r legal = loop-sum-stays (GK 4 3) (sound-K 4 3) (dK 4 3) r legal 0 (queue0 ∷ queue1 ∷ []) loop-of-K (lit< tt)
 
 -- four firings are done: two of the start list, two of the round list, and 1 is left of that
 part-of-K : firings (0 ∷ 0 ∷ []) (0 ∷ 0 ∷ 1 ∷ []) (part 2 3 4) ≡ 1 ∷ []

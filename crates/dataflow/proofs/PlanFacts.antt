@@ -1,14 +1,17 @@
--- The whole plan of the worked example K(4,3), as it is printed, and its promise.
-use mathlib.Core.Path.{refl}
+-- The whole plan of the worked example K(4,3), as it is printed, and its promise; its loop.
+use Prim.Native.Nat.{ℕ}
+use mathlib.Core.Path.{_≡_, refl}
 use mathlib.Core.List.{[], _∷_}
 use native.Mathlib.Omega.{arith}
 use native.Mathlib.Decide.{ℕ-discrete, decLe, decLt}
 use lib.Dec.{lit≤, lit<}
+use lib.IntN.{ℤ}
 use Rattle.lists.specs.Front.{at}
 use Rattle.dataflow.specs.Paths.{Period}
 use Rattle.dataflow.specs.Runs.{made}
 use Rattle.dataflow.specs.Stuck.{RoundFires}
-use Rattle.dataflow.specs.Retiming.{retimed, whole}
+use Rattle.dataflow.specs.Retiming.{Legal, retimed, whole}
+use Rattle.dataflow.specs.Loops.{loopSum}
 use Rattle.dataflow.specs.Search.{nothing, raise, SearchEnds}
 use Rattle.dataflow.specs.Lists.{RoundList}
 use Rattle.dataflow.specs.Promise.{Plan, PlanHolds, Promise, OriginPromise}
@@ -16,7 +19,7 @@ use Rattle.dataflow.specs.Sheet.{planOf}
 use Rattle.dataflow.specs.Samples.{K}
 use Rattle.dataflow.proofs.Below.{upto, each-below}
 use Rattle.dataflow.proofs.Decide.{by-yes, list-dec}
-use Rattle.dataflow.proofs.BenchFacts.{qK, rK, GK, dK, queue1, origin-of-K, sound-K, counts-of-K, start-of-K, round-of-K}
+use Rattle.dataflow.proofs.BenchFacts.{qK, rK, GK, dK, queue0, queue1, origin-of-K, loop-of-K, sound-K, counts-of-K, start-of-K, round-of-K}
 use Rattle.dataflow.proofs.PathLaws.{none-late-within}
 use Rattle.dataflow.proofs.TakenLaws.{origin-promise}
 use Rattle.dataflow.proofs.StuckLaws.{round-of-list}
@@ -24,6 +27,7 @@ use Rattle.dataflow.proofs.EndLaws.{ends-at-plan}
 use Rattle.dataflow.proofs.SumTable.{latest, edge-dec}
 use Rattle.dataflow.proofs.Computed.{computed-period, computed-lates, computed-times, lateCount}
 use Rattle.dataflow.proofs.PromiseLaws.{kept}
+use Rattle.dataflow.proofs.LoopLaws.{loop-sum-stays}
 
 -- period 3, rounds 1, back 1; retime 0 1; delay 2 2; room 2 4; start 0 0; round 0 0 1; times 0 0 0
 abbrev plan-K : Plan (GK 4 3)
@@ -74,3 +78,7 @@ fires-K = round-of-list (GK 4 3) (sound-K 4 3) _ _ before-K
 -- in every run firing 6 of station 0 takes from queue 1 the token 2 of firing 1 of station 1
 origin-K : OriginPromise (GK 4 3) (dK 4 3) queue1 6 1 (made 1 2)
 origin-K = origin-promise (GK 4 3) (dK 4 3) queue1 6 1 (made 1 2) (lit≤ tt) (lit≤ tt) origin-of-K
+
+-- round the loop of K(4,3) the sum is 8 by the delays of every legal retiming
+loop-K : (r : ℕ → ℤ) → Legal (GK 4 3) (dK 4 3) r → loopSum (GK 4 3) (retimed (GK 4 3) (dK 4 3) r) (queue0 ∷ queue1 ∷ []) ≡ 8
+loop-K r legal = loop-sum-stays (GK 4 3) (sound-K 4 3) (dK 4 3) r legal 0 (queue0 ∷ queue1 ∷ []) loop-of-K (lit< tt)
