@@ -6,10 +6,11 @@
 
 #include "tasselbrook.h"
 
-static uint8_t sheet[TASSELBROOK_SHEET_BYTES + 1];
-static size_t length;
-/* the sample with a delay of 4,096 on queue 1, which is refused by 5 with place 1 */
-static uint8_t bad_field[TASSELBROOK_SHEET_BYTES + 1];
+/* K(4,3), as the paper prints it */
+static const uint8_t sheet[] = {1, 0, 2, 0, 2, 0, 0, 0, 20, 0, 0, 0, 28, 0, 0, 0,
+                                3, 0, 0, 0, 1, 0, 3, 0, 2,  0, 2, 0, 0,  0, 1, 0,
+                                1, 0, 2, 0, 0, 0, 1, 0, 0,  0, 2, 0, 1,  0, 4, 0};
+static const size_t length = sizeof sheet;
 static int as_expected, otherwise;
 
 static void expect(bool holds, const char *what) {
@@ -41,6 +42,9 @@ static void try_read(void) {
   expect(s->delay[0] == 0 && s->delay[1] == 4 && s->delay[63] == 0, "read delays");
   r = tasselbrook_read(sheet, length - 1);
   expect(r.number == TASSELBROOK_LAYOUT && r.place == 0 && r.sheet.n == 0, "read 4");
+  uint8_t bad_field[sizeof sheet];
+  memcpy(bad_field, sheet, length);
+  bad_field[length - 1] = 16; /* a delay of 4,100 on queue 1 */
   r = tasselbrook_read(bad_field, length);
   expect(r.number == TASSELBROOK_FIELD && r.place == 1 && r.sheet.delay[1] == 0, "read 5");
 }
@@ -154,19 +158,7 @@ static void try_rest(void) {
   expect_rest(0, 5, (struct tasselbrook_rest){1, 0, 0}, "rest of an empty round list");
 }
 
-int main(int argc, char **argv) {
-  const char *name = argc > 1 ? argv[1] : "samples/k43.sheet";
-  FILE *file = fopen(name, "rb");
-  if (file == NULL) {
-    perror(name);
-    return 1;
-  }
-  length = fread(sheet, 1, sizeof sheet, file);
-  fclose(file);
-  memcpy(bad_field, sheet, sizeof sheet);
-  bad_field[length - 2] = 0;
-  bad_field[length - 1] = 16;
-
+int main(void) {
   try_read();
   try_write();
   try_plan();
