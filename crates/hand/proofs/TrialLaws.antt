@@ -1,13 +1,14 @@
 -- The hand check, by the rows of the table.
-use Prim.Native.Nat.{ℕ, zero, suc, _+_, _≤_, _<_, _^_}
+use Prim.Native.Nat.{ℕ, _+_, _≤_, _<_, _^_}
 use mathlib.Core.Path.{_≡_, refl, sym, fun-ext, subst}
 use mathlib.Core.Bool.{Bool, true, false}
 use mathlib.Core.List.{List, [], _∷_}
 use mathlib.Core.Logic.{⊎-elim}
 use native.Mathlib.Omega.{arith}
-use lib.ListN.{length, getD}
+use lib.ListN.{length, List·getD-eq-default}
 use lib.IntN.{ℤ, pos, negsuc}
 use Rattle.lists.specs.Front.{at}
+use Rattle.lists.specs.Lowest.{LowestFailing}
 use Rattle.lists.proofs.Order.{lt-or-ge}
 use Rattle.refusals.specs.Table.{slow}
 use Rattle.refusals.specs.First.{Row, Passed, First}
@@ -32,27 +33,21 @@ use Rattle.checks.specs.Check.{netFor, delaysFor, CountsOf, Ready}
 use Rattle.checks.proofs.CheckLaws.{counts-of-once, ready-counted, ready-given}
 use Rattle.hand.specs.declared.HandPeriod.{HandPeriod}
 use Rattle.hand.specs.Hand.{negativeRow, slowRow, Tried}
-use Rattle.hand.specs.Shift.{Shiftable, SumsOf, LowestShort, Differences}
+use Rattle.hand.specs.Shift.{Shiftable, SumsOf, HasEnough, Differences}
 use Rattle.hand.specs.Trial.{Timeable}
 use Rattle.hand.proofs.ShiftLaws.{products, queue-small}
 
--- beyond the last entry of a hand list stands 0
-pub beyond : (l : List ℤ) (v : ℕ) → length l ≤ v → getD l v (pos 0) ≡ pos 0
-beyond [] v h = refl
-beyond (x ∷ l) zero h = absurd (omega arith)
-beyond (x ∷ l) (suc v) h = beyond l v (omega arith)
-
 -- exactly the entries that are wanted, each in range
 pub fits-all : (f : Sheet) {l : List ℤ} → length l ≡ f .n → ((v : ℕ) → v < length l → InHandRange (byHand l v)) → HandFits (netFor f []) l
-fits-all f {l} e h = record { one-each = e; in-range = λ v. ⊎-elim (λ b. h v b) (λ b. rw (beyond l v b) (omega arith)) (lt-or-ge v (length l)) }
+fits-all f {l} e h = record { one-each = e; in-range = λ v. ⊎-elim (λ b. h v b) (λ b. rw (List·getD-eq-default l (pos 0) {n = v} b) (omega arith)) (lt-or-ge v (length l)) }
 
 -- what the two sums tell of their difference
 not-below : (z : ℤ) (a b : ℕ) → Difference z a b → b ≤ a → NotNegative z
 not-below (pos n) a b D h = tt
 not-below (negsuc n) a b D h = absurd (omega (arith, D .is))
 
-is-below : (z : ℤ) (a b : ℕ) → Difference z a b → a < b → ¬ NotNegative z
-is-below (pos n) a b D h t = omega (arith, D .is)
+is-below : (z : ℤ) (a b : ℕ) → Difference z a b → (b ≤ a → ⊥) → ¬ NotNegative z
+is-below (pos n) a b D h t = h (omega (arith, D .is))
 is-below (negsuc n) a b D h t = t
 
 amount-is : (z : ℤ) (a b x : ℕ) → Difference z a b → x + b ≡ a → amount z ≡ x
@@ -77,21 +72,21 @@ module _ {c : Checked} (h : Ready (c .sheet) c) {l : List ℤ} (fit : HandFits (
     new-is q e = rw (S .has .is (e .0) (e .1), S .loses .is (e .0) (e .1), h .delays) (delay-is (netFor f q) (delaysFor f q) (byHand l) e)
 
     -- 13 is given
-    pub short-refused : {r : ℕ} {rows : List Row} → LowestShort (at gain) (at loss) (f .m) r → r < f .m → First (negativeRow f l ∷ rows) 13 r
+    pub short-refused : {r : ℕ} {rows : List Row} → LowestFailing (HasEnough gain loss) (f .m) r → r < f .m → First (negativeRow f l ∷ rows) 13 r
     short-refused {r} s b = here {r = negativeRow f l} (record {
-      applies = ((r, b), number-of (f .m) r b, is-below _ _ _ (new-is [] (r, b)) (s .short b));
-      none-below = λ i i-low a. a .2 (not-below _ _ _ (new-is [] (a .0)) (s .before (a .0 .0) (omega (arith, number-is (f .m) (a .0) i (a .1)))));
+      applies = ((r, b), number-of (f .m) r b, is-below _ _ _ (new-is [] (r, b)) (s .fails b));
+      none-below = λ i i-low a. a .2 (not-below _ _ _ (new-is [] (a .0)) (s .below (a .0 .0) (omega (arith, number-is (f .m) (a .0) i (a .1)))));
     })
 
-    module _ (s : LowestShort (at gain) (at loss) (f .m) (f .m)) where
+    module _ (s : LowestFailing (HasEnough gain loss) (f .m) (f .m)) where
       -- or it is not: the hand list is legal
       pub is-legal : (q : List ℕ) → Legal (netFor f q) (delaysFor f q) (byHand l)
-      is-legal q e = not-below _ _ _ (new-is q e) (s .before (e .0) (e .1))
+      is-legal q e = not-below _ _ _ (new-is q e) (s .below (e .0) (e .1))
 
       pub negative-passed : Passed (negativeRow f l)
       negative-passed place a = a .2 (is-legal [] (a .0))
 
-      module _ {new : List ℕ} (N : Differences (at gain) (at loss) (f .m) new) where
+      module _ {new : List ℕ} (N : Differences gain loss (f .m) new) where
         new-delays : (q : List ℕ) → retimed (netFor f q) (delaysFor f q) (byHand l) ≡ delaysOf (f .m) new
         new-delays q = fun-ext (λ e. amount-is _ _ _ _ (new-is q e) (N .is (e .0) (e .1)))
 

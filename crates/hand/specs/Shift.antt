@@ -1,5 +1,5 @@
 -- New delays by sums of natural numbers.
-use Prim.Native.Nat.{ℕ, _+_, _*_, _≤_, _<_}
+use Prim.Native.Nat.{ℕ, _+_, _*_, _≤_}
 use mathlib.Core.Path.{_≡_}
 use mathlib.Core.List.{List}
 use lib.ListN.{length}
@@ -45,13 +45,10 @@ module _ (source sink produced consumed delay : List ℕ) (hand : List ℤ) wher
     pub has : Filled (λ e x. x ≡ gainOf e) m gains
     pub loses : Filled (λ e x. x ≡ lossOf e) m losses
 
-module _ (gain loss : ℕ → ℕ) (m : ℕ) where
-  -- r is the lowest queue that loses more than it has, or m
-  pub record LowestShort (r : ℕ) : Type 0 where
-    pub low : r ≤ m
-    pub short : r < m → gain r < loss r
-    pub before : (e : ℕ) → e < r → loss e ≤ gain e
+-- a queue has at least what it loses
+abbrev pub HasEnough : (gains losses : List ℕ) (e : ℕ) → Type 0
+HasEnough gains losses e = at losses e ≤ at gains e
 
-  -- what each queue has left, and 0 beyond the last
-  abbrev pub Differences : List ℕ → Type 0
-  Differences new = Filled (λ e x. x + loss e ≡ gain e) m new
+-- what each queue has left, and 0 beyond the last
+abbrev pub Differences : (gains losses : List ℕ) (m : ℕ) → List ℕ → Type 0
+Differences gains losses m new = Filled (λ e x. x + at losses e ≡ at gains e) m new

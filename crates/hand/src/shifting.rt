@@ -1,9 +1,9 @@
 // The delays that a hand list gives, by sums of natural numbers.
 ghost use Prim.Native.Nat.{ℕ, _≤_, _<_};
 ghost use mathlib.Core.Path.{_≡_};
-ghost use Rattle.lists.specs.Front.{at};
+ghost use Rattle.lists.specs.Lowest.{LowestFailing};
 ghost use Rattle.hand.specs.Shift as shift;
-ghost use Rattle.hand.specs.Shift.{Small, Shiftable, SumsOf, LowestShort, Differences};
+ghost use Rattle.hand.specs.Shift.{Small, Shiftable, SumsOf, HasEnough, Differences};
 use chain::wide;
 use chain::wide32;
 
@@ -67,7 +67,7 @@ fn earlier(m: usize, found: usize, e: usize) -> usize
 // The lowest queue that loses more than it has, or m. One step for each queue.
 pub(crate) fn lowest_short(m: usize, gain: &[u32; 64], loss: &[u32; 64]) -> usize
     requires { ⌜ m ≤ 64 ⌝ }
-    ensures { λ r. ⌜ LowestShort (at (now (gain .entry))) (at (now (loss .entry))) m r ⌝ }
+    ensures { λ r. ⌜ LowestFailing (HasEnough (now (gain .entry)) (now (loss .entry))) m r ⌝ }
 {
     let mut found = m;
     for e in 0..m {
@@ -80,8 +80,8 @@ pub(crate) fn lowest_short(m: usize, gain: &[u32; 64], loss: &[u32; 64]) -> usiz
 
 // The differences where no queue loses more than it has. One step for each queue.
 pub(crate) fn differences(m: usize, gain: &[u32; 64], loss: &[u32; 64]) -> [u32; 64]
-    requires { ⌜ (m ≤ 64) × ((e : ℕ) → e < m → at (now loss) e ≤ at (now gain) e) ⌝ }
-    ensures { λ r. ⌜ Differences (at (now (gain .entry))) (at (now (loss .entry))) m r ⌝ }
+    requires { ⌜ (m ≤ 64) × ((e : ℕ) → e < m → HasEnough (now gain) (now loss) e) ⌝ }
+    ensures { λ r. ⌜ Differences (now (gain .entry)) (now (loss .entry)) m r ⌝ }
 {
     let mut new = [0u32; 64];
     for e in 0..m {

@@ -2,7 +2,6 @@ use Prim.Native.Nat.{_-_, _≤_}
 use mathlib.Core.Path.{_≡_, refl}
 use native.Mathlib.Omega.{arith}
 use lib.ListN.{length, length-set}
-use Rattle.lists.specs.Front.{at}
 use Rattle.lists.proofs.FilledLaws.{filled-none, filled-more}
 use Rattle.hand.specs.Shift.{Differences}
 use borrow.Author.Needs.{needs}
@@ -10,7 +9,7 @@ use Rattle.hand.proofs.shifting.differences.Statement.{statement}
 use Rattle.hand.proofs.shifting.differences.Tie as tie
 
 abbrev Inv-loop : tie.InvT-loop
-Inv-loop m gain loss new₀ e₀ new e = (e ≤ m) × ((length new ≡ 64) × Differences (at gain) (at loss) e new)
+Inv-loop m gain loss new₀ e₀ new e = (e ≤ m) × ((length new ≡ 64) × Differences gain loss e new)
 
 abbrev μ-loop : tie.MeasureT-loop
 μ-loop m gain loss new₀ e₀ new e = m - e

@@ -1,22 +1,22 @@
 use mathlib.Core.Path.{_≡_, refl}
 use native.Mathlib.Omega.{arith}
 use borrow.Author.Needs.{needs}
-use Rattle.lists.specs.Front.{at}
+use Rattle.lists.specs.Lowest.{LowestFailing}
 use Rattle.refusals.proofs.AnswerLaws.{refuses, accepts, passes}
 use Rattle.hand.specs.Hand.{handKind}
-use Rattle.hand.specs.Shift.{LowestShort}
+use Rattle.hand.specs.Shift.{HasEnough}
 use Rattle.hand.proofs.TrialLaws.{shiftable, short-refused, negative-passed, timeable, slow-refused, slow-passed, tried}
 use Rattle.hand.proofs.trial.shifted.Statement.{statement}
 use Rattle.hand.proofs.trial.shifted.Tie as tie
 
 -- no queue is short
 none-short : (c : tie.Else1) → let b = c .before .before .before .before .before .before in
-    LowestShort (at (b .both-sums .result .gain)) (at (b .both-sums .result .loss)) (b .before .before .before .before .before .before .before .before .before .before .before .args .checked .sheet .m)
+    LowestFailing (HasEnough (b .both-sums .result .gain) (b .both-sums .result .loss)) (b .before .before .before .before .before .before .before .before .before .before .before .args .checked .sheet .m)
     (b .before .before .before .before .before .before .before .before .before .before .before .args .checked .sheet .m)
 none-short c =
     let s = c .before .lowest-short in
     let b = c .before .before .before .before .before .before in
-    let e : s .result ≡ b .before .before .before .before .before .before .before .before .before .before .before .args .checked .sheet .m = omega (arith, s .ensures .low, c .if1 .left) in
+    let e : s .result ≡ b .before .before .before .before .before .before .before .before .before .before .before .args .checked .sheet .m = omega (arith, s .ensures .within, c .if1 .left) in
     rw e at (s .ensures)
 
 both-sums-requires : tie.Need-both-sums-requires
@@ -46,7 +46,7 @@ differences-requires c κs =
     let e = c .before .before in
     let b = e .before .before .before .before .before .before in
     let a = b .before .before .before .before .before .before .before .before .before .before .before in
-    (a .pre .0 .chain .few-queues, none-short e .before)
+    (a .pre .0 .chain .few-queues, none-short e .below)
 
 period-with-requires : tie.Need-period-with-requires
 period-with-requires c κs =
