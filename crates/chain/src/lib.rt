@@ -1,8 +1,10 @@
 // The columns that the planner's routines are lent.
 mod columns;
+mod dividing;
 mod maximum;
 
 pub use columns::wide;
 pub use columns::wide32;
 pub use columns::widen;
+pub use dividing::rounded_up;
 pub use maximum::larger;

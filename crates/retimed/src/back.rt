@@ -3,17 +3,9 @@ ghost use mathlib.Core.Path.{_≡_};
 ghost use Prim.Native.Nat.{ℕ, _≤_, _<_};
 ghost use Rattle.lists.specs.Front.{at};
 ghost use Rattle.dataflow.specs.Counts.{sum};
-ghost use Rattle.chain.specs.Ceiling.{Ceiling};
 ghost use Rattle.retimed.specs.Back.{CoversAll, BackOf, Small, StartFirings};
 use chain::larger;
-
-// How many rounds make so many firings of a station of this count. One division.
-fn rounds_for(firings: u32, count: u32) -> u32
-    requires { ⌜ (firings ≤ 65280) × ((1 ≤ count) × (count ≤ 256)) ⌝ }
-    ensures { λ r. ⌜ Ceiling firings count r ⌝ }
-{
-    (firings + count - 1) / count
-}
+use chain::rounded_up;
 
 // Back. One step for each station.
 pub fn back_of(n: usize, q: &[u32; 32], retiming: &[u32; 32]) -> u32
@@ -22,7 +14,7 @@ pub fn back_of(n: usize, q: &[u32; 32], retiming: &[u32; 32]) -> u32
 {
     let mut back = 0;
     for v in 0..n {
-        back = larger(back, rounds_for(retiming[v], q[v]));
+        back = larger(back, rounded_up(retiming[v], q[v]));
     }
     back
 }

@@ -1,5 +1,5 @@
 -- Differences and quotients of either sign.
-use Prim.Native.Nat.{ℕ, suc, _+_, _-_, _*_, _/_, _%_, _≤_, _<_, _^_}
+use Prim.Native.Nat.{ℕ, suc, _+_, _-_, _/_, _%_, _≤_, _<_, _^_}
 use mathlib.Core.Path.{_≡_, refl, ap, _∙_}
 use native.Mathlib.Nat.{div-le-self, div-add-mod', mod-lt, mul-le-mul-left, lt-of-mul-lt-mul-right}
 use native.Mathlib.Omega.{arith}

@@ -1,19 +1,11 @@
 // Division by a count, rounded toward minus infinity.
 ghost use mathlib.Core.Path.{_≡_};
-ghost use Prim.Native.Nat.{_≤_, _<_, _^_};
-ghost use Rattle.chain.specs.Ceiling.{Ceiling};
+ghost use Prim.Native.Nat.{_≤_, _<_};
 ghost use Rattle.dataflow.specs.Move.{floorDiv, floorMod};
 use crate::parts::difference;
 use crate::parts::down;
 use crate::parts::up;
-
-// One division.
-fn rounded_up(k: u32, q: u32) -> u32
-    requires { ⌜ (k ≤ 2 ^ 31) × ((1 ≤ q) × (q ≤ 65536)) ⌝ }
-    ensures { λ r. ⌜ Ceiling k q r ⌝ }
-{
-    (k + q - 1) / q
-}
+use chain::rounded_up;
 
 // Below 0 the quotient's size is rounded up.
 pub fn floor_div(x: i32, q: u32) -> i32

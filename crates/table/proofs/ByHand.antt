@@ -1,13 +1,12 @@
 -- Hand checks of a sheet that is written within limits, and the hand rows.
 use Prim.Native.Nat.{ℕ, zero, suc, _≤_}
-use mathlib.Core.Path.{_≡_, refl, subst}
+use mathlib.Core.Path.{refl, subst}
 use mathlib.Core.List.{List, [], _∷_}
 use native.Mathlib.Decide.{ℕ-discrete, decLe, decLt}
 use native.Mathlib.Omega.{arith}
 use lib.Dec.{lit≤}
 use lib.IntN.{ℤ, pos, negsuc}
-use Rattle.lists.specs.Front.{at, table, front}
-use Rattle.refusals.specs.First.{First}
+use Rattle.lists.specs.Front.{table, front}
 use Rattle.refusals.specs.Answer.{Answers}
 use Rattle.refusals.proofs.FirstLaws.{here, all-passed}
 use Rattle.refusals.proofs.AnswerLaws.{refuses, accepts, passes, follows}

@@ -16,24 +16,24 @@ abbrev μ-loop : tie.MeasureT-loop
 loop-holds : tie.Need-loop-holds Inv-loop μ-loop
 loop-holds c = (search needs, back-none _ _)
 
-mul-rounds-for : tie.Need-mul-rounds-for Inv-loop μ-loop
-mul-rounds-for c = search needs
+mul-rounded-up : tie.Need-mul-rounded-up Inv-loop μ-loop
+mul-rounded-up c = search needs
 
-element-copy-out-rounds-for : tie.Need-element-copy-out-rounds-for Inv-loop μ-loop
-element-copy-out-rounds-for c = search needs
+element-copy-out-rounded-up : tie.Need-element-copy-out-rounded-up Inv-loop μ-loop
+element-copy-out-rounded-up c = search needs
 
-mul-rounds-for-2 : tie.Need-mul-rounds-for-2 Inv-loop μ-loop
-mul-rounds-for-2 c = search needs
+mul-rounded-up-2 : tie.Need-mul-rounded-up-2 Inv-loop μ-loop
+mul-rounded-up-2 c = search needs
 
-element-copy-out-rounds-for-2 : tie.Need-element-copy-out-rounds-for-2 Inv-loop μ-loop
-element-copy-out-rounds-for-2 c = search needs
+element-copy-out-rounded-up-2 : tie.Need-element-copy-out-rounded-up-2 Inv-loop μ-loop
+element-copy-out-rounded-up-2 c = search needs
 
-rounds-for-requires : tie.Need-rounds-for-requires Inv-loop μ-loop
-rounds-for-requires c κs =
+rounded-up-requires : tie.Need-rounded-up-requires Inv-loop μ-loop
+rounded-up-requires c κs =
     let i = c .before .before in
     let a = i .before .before .pre in
     let v = i .before .loop .v in
-    (a .retimings v (i .loop-test .taken), (a .positive v (i .loop-test .taken), a .counts v (i .loop-test .taken)))
+    (omega (arith, a .retimings v (i .loop-test .taken)), (a .positive v (i .loop-test .taken), omega (arith, a .counts v (i .loop-test .taken))))
 
 larger-requires : tie.Need-larger-requires Inv-loop μ-loop
 larger-requires c κs = search needs
@@ -48,7 +48,7 @@ loop-again : tie.Need-loop-again Inv-loop μ-loop
 loop-again c =
     let r = c .before in
     let l = r .before .before .before .before in
-    (search needs, rw (c .larger .ensures) (back-more _ _ (r .rounds-for .ensures) (l .loop .inv .1)))
+    (search needs, rw (c .larger .ensures) (back-more _ _ (r .rounded-up .ensures) (l .loop .inv .1)))
 
 returns : tie.Need-returns Inv-loop μ-loop
 returns c =
@@ -63,11 +63,11 @@ back-of-spec =
     Inv-loop
     μ-loop
     loop-holds
-    mul-rounds-for
-    element-copy-out-rounds-for
-    mul-rounds-for-2
-    element-copy-out-rounds-for-2
-    rounds-for-requires
+    mul-rounded-up
+    element-copy-out-rounded-up
+    mul-rounded-up-2
+    element-copy-out-rounded-up-2
+    rounded-up-requires
     larger-requires
     add-v
     loop-less

@@ -1,7 +1,7 @@
 use Rattle.chain.proofs.CeilingLaws.{ceiling-is}
 use borrow.Author.Needs.{needs}
-use Rattle.signed.proofs.floor.rounded_up.Statement.{statement}
-use Rattle.signed.proofs.floor.rounded_up.Tie as tie
+use Rattle.chain.proofs.dividing.rounded_up.Statement.{statement}
+use Rattle.chain.proofs.dividing.rounded_up.Tie as tie
 
 add-result : tie.Need-add-result
 add-result c = search needs
@@ -13,7 +13,7 @@ div-result : tie.Need-div-result
 div-result c = search needs
 
 returns : tie.Need-returns
-returns c = ceiling-is (c .args .k) (c .args .q) (c .pre .1 .0)
+returns c = ceiling-is (c .args .k) (c .args .rate) (c .pre .1 .0)
 
 pub rounded-up-spec : {M : Type 1} → statement M
 rounded-up-spec = tie.close (tie.spec add-result sub-result div-result returns)
