@@ -9,9 +9,9 @@ mod signs;
 mod tracing;
 mod writing;
 
-ghost use Prim.Native.Nat.{_≤_, _<_};
+ghost use Prim.Native.Nat.{_≤_, _<_, min};
+ghost use mathlib.Core.Path.{_≡_};
 ghost use lib.ListN.{length};
-ghost use Rattle.bench.specs.Least.{Least};
 use libc::STDIN_FILENO;
 
 pub(crate) fn malformed() {
@@ -34,7 +34,7 @@ fn answer(kind: u8, body: &[u8]) {
 }
 
 fn least(a: usize, b: usize) -> usize
-    ensures { λ r. ⌜ Least a b r ⌝ }
+    ensures { λ r. ⌜ r ≡ min a b ⌝ }
 {
     if a < b { a } else { b }
 }

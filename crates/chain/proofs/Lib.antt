@@ -1,3 +1,4 @@
 pub mod ColumnLaws
 pub mod ChainLaws
 pub mod CeilingLaws
+pub mod Unique

@@ -1,6 +1,6 @@
 -- The raising of counts keeps below every vector that balances, and ends at the smallest.
 use Prim.Native.Nat.{ℕ, _+_, _-_, _≤_, _<_}
-use mathlib.Core.Path.{_≡_, sym, _∙_}
+use mathlib.Core.Path.{_≡_, refl, sym, _∙_}
 use mathlib.Core.Bool.{true, false}
 use mathlib.Core.List.{List, []}
 use mathlib.Core.Logic.{⊎-elim}
@@ -9,6 +9,7 @@ use lib.ListN.{length, set, replicate, length-set, length-replicate}
 use Rattle.lists.specs.Front.{at}
 use Rattle.lists.specs.Lowest.{LowestFailing}
 use Rattle.lists.proofs.Order.{lt-or-ge}
+use Rattle.lists.proofs.TestLaws.{differ}
 use Rattle.dataflow.specs.Net.{Balances}
 use Rattle.dataflow.specs.Counts.{sum}
 use Rattle.dataflow.proofs.SumLaws.{sum-le, sum-same, sum-above}
@@ -17,9 +18,6 @@ use Rattle.counts.specs.Raising.{Ones, Small, Balanced, Raises}
 use Rattle.counts.specs.Smallest.{Smallest}
 use Rattle.lists.proofs.StoreLaws.{at-zeros, after-store}
 use Rattle.counts.proofs.SumLaws.{sum-zeros, sum-ones, sum-store}
-
-differ : true ≡ false → ⊥
-differ e = let z : _≡_ {A = ℕ} 0 1 = cc in omega arith
 
 -- q is positive at each station and 0 beyond, total is its sum, and every vector that balances is at or above q
 pub record Raising (n m : ℕ) (source sink produced consumed q : List ℕ) (total : ℕ) : Type 0 where
@@ -34,10 +32,10 @@ module _ (n m : ℕ) (source sink produced consumed q : List ℕ) where
   raise-begin O =
       record {
         long = O .long;
-        some = λ v h. omega (arith, O .one v h);
-        beyond = O .beyond;
-        counted = sym (sum-same n (at q) (λ v. 1) (O .one) ∙ sum-ones n);
-        below = λ x b v. ⊎-elim (λ h. omega (arith, O .one v h, b .positive v h)) (λ h. omega (arith, O .beyond v h)) (lt-or-ge v n);
+        some = λ v h. omega (arith, O .ones .is v h);
+        beyond = O .ones .rest;
+        counted = sym (sum-same n (at q) (λ v. 1) (O .ones .is) ∙ sum-ones n);
+        below = λ x b v. ⊎-elim (λ h. omega (arith, O .ones .is v h, b .positive v h)) (λ h. omega (arith, O .ones .rest v h)) (lt-or-ge v n);
       }
 
   module _ (total : ℕ) (R : Raising n m source sink produced consumed q total) where
@@ -71,8 +69,8 @@ module _ (n m : ℕ) (source sink produced consumed q : List ℕ) where
           total = R .counted;
           most = h;
           counts = λ t. record { balances = record { positive = R .some; balanced = λ i. L .below (i .0) (omega (arith, i .1)) }; least = λ x b v d. R .below x b v };
-          fails = λ f. absurd (differ f);
-          nothing = λ f. absurd (differ f);
+          fails = λ f. absurd (differ refl f);
+          nothing = λ f. absurd (differ refl f);
         }
 
     pub none-found : 256 < total → Smallest n m source sink produced consumed (record { fits = false; total = 0; q = replicate 32 0 })
@@ -82,7 +80,7 @@ module _ (n m : ℕ) (source sink produced consumed q : List ℕ) where
           beyond = λ v k. at-zeros 32 v;
           total = sym (sum-zeros n 32);
           most = omega arith;
-          counts = λ t. absurd (differ (sym t));
+          counts = λ t. absurd (differ t refl);
           fails = λ f x b s. omega (arith, sum-le n (at q) x (R .below x b), R .counted);
           nothing = λ f. at-zeros 32;
         }

@@ -4,12 +4,12 @@ use mathlib.Core.Path.{_≡_, sym}
 use mathlib.Core.List.{List}
 use native.Mathlib.Nat.{mul-le-mul-left, mul-le-mul-right, lt-of-mul-lt-mul-right}
 use native.Mathlib.Omega.{arith}
-use lib.ListN.{length, set, length-set}
+use lib.ListN.{set, length-set}
 use Rattle.lists.specs.Front.{at}
+use Rattle.lists.proofs.FilledLaws.{filled-more}
 use Rattle.chain.specs.Ceiling.{Ceiling}
 use Rattle.chain.specs.Chain.{Chain}
 use Rattle.counts.specs.Raising.{QueueFits, Raises, Ones}
-use Rattle.lists.proofs.StoreLaws.{after-store}
 
 pub queue-fits : {n m : ℕ} {source sink produced consumed : List ℕ} → Chain n m source sink produced consumed → (e : ℕ) → e < m → QueueFits source sink produced consumed e
 queue-fits C e h =
@@ -21,12 +21,7 @@ queue-fits C e h =
 -- one more station has its 1
 pub ones-more : (v x : ℕ) (q : List ℕ) → v < 32 → x ≡ 1 → Ones v q → Ones (v + 1) (set q v x)
 ones-more v x q h e O =
-    let l : v < length q = omega (arith, O .long) in
-    record {
-      long = simp length-set (O .long);
-      one = after-store q v x l (λ w y. w < v + 1 → y ≡ 1) (λ k. e) (λ w d k. O .one w (omega arith));
-      beyond = after-store q v x l (λ w y. v + 1 ≤ w → y ≡ 0) (λ k. absurd (omega arith)) (λ w d k. O .beyond w (omega arith));
-    }
+    record { long = simp length-set (O .long); ones = filled-more x (omega (arith, O .long)) e (O .ones) }
 
 pub tokens-small : {count rate : ℕ} → count ≤ 256 → rate ≤ 64 → count * rate ≤ 16384
 tokens-small {count} h k = let a = mul-le-mul-left count k in omega arith

@@ -11,6 +11,7 @@ use Rattle.lists.specs.Test.{Tells}
 use Rattle.lists.proofs.Order.{lt-or-ge}
 use Rattle.dataflow.specs.Counts.{sum}
 use Rattle.dataflow.proofs.CountLaws.{counts-once}
+use Rattle.lists.proofs.TestLaws.{tells-once}
 use Rattle.counts.specs.declared.Counted.{Counted}
 use Rattle.counts.specs.Joining.{AllJoined}
 use Rattle.chain.specs.Chain.{netOf}
@@ -18,10 +19,7 @@ use Rattle.counts.specs.Smallest.{Smallest}
 
 -- of the test whether the stations are joined
 pub joined-unique : (n m : ℕ) (source sink : List ℕ) (r r′ : Bool) → Tells r (AllJoined n m source sink) → Tells r′ (AllJoined n m source sink) → r ≡ r′
-joined-unique n m source sink true true p q = refl
-joined-unique n m source sink true false p q = absurd (q .fails refl (p .holds refl))
-joined-unique n m source sink false true p q = absurd (p .fails refl (q .holds refl))
-joined-unique n m source sink false false p q = refl
+joined-unique n m source sink = tells-once
 
 module _ (n m : ℕ) (source sink produced consumed : List ℕ) where
   abbrev Answer : Counted → Type 0

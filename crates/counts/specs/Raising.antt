@@ -4,12 +4,12 @@ use mathlib.Core.Path.{_≡_}
 use mathlib.Core.List.{List}
 use lib.ListN.{length}
 use Rattle.lists.specs.Front.{at}
+use Rattle.lists.specs.Filled.{Filled}
 
 -- 1 for each of n stations, and 0 beyond
 pub record Ones (n : ℕ) (q : List ℕ) : Type 0 where
   pub long : length q ≡ 32
-  pub one : (v : ℕ) → v < n → at q v ≡ 1
-  pub beyond : (v : ℕ) → n ≤ v → at q v ≡ 0
+  pub ones : Filled (λ v x. x ≡ 1) n q
 
 -- each count is at most 256
 pub record Small (q : List ℕ) : Type 0 where

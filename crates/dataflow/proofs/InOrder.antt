@@ -8,8 +8,8 @@ use native.Mathlib.Decide.{ℕ-discrete}
 use lib.ListN.{replicate}
 use Rattle.dataflow.specs.Net.{Net, Sound}
 use Rattle.dataflow.specs.Runs.{whenever}
-use Rattle.dataflow.specs.Lists.{RoundList}
-use Rattle.dataflow.proofs.PrefixLaws.{FedBy, firedBy, fired-more, Prefix, none, prefix-next, prefix-length, prefix-whole}
+use Rattle.dataflow.specs.Lists.{RoundList, FedBy, firedBy, Prefix, none}
+use Rattle.dataflow.proofs.PrefixLaws.{fired-more, prefix-next, prefix-length, prefix-whole}
 use Rattle.dataflow.proofs.SumLaws.{sum-same}
 
 -- each of the first n stations, as often as its count

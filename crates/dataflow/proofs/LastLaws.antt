@@ -1,21 +1,15 @@
 -- A table that goes by the last tokens alone is the time table.
 use mathlib.Core.Path.{_≡_, ap}
 use mathlib.Core.Logic.{_⊎_, inl, inr}
-use Prim.Native.Nat.{ℕ, zero, suc, _+_, _*_, _≤_, _<_}
+use Prim.Native.Nat.{ℕ, zero, suc, _+_, _≤_, _<_}
 use native.Mathlib.Nat.{le-refl, mul-le-mul-right, lt-of-mul-lt-mul-right}
 use native.Mathlib.Omega.{arith}
 use Rattle.dataflow.specs.Net.{Net, Sound}
 use Rattle.dataflow.specs.Copies.{Copy, Dependence}
-use Rattle.dataflow.specs.Times.{finish, Latest, TimeTable}
+use Rattle.dataflow.specs.Times.{finish, Latest, TimeTable, MakesLast, HeldByLast, LastStart}
 use Rattle.dataflow.proofs.FeedLaws.{Feed, feed-last}
 use Rattle.dataflow.proofs.CopyLaws.{inside, inside-of}
 use Rattle.dataflow.proofs.RankLaws.{Ranked}
-
--- Firing f makes the last token that firing i takes: d + (f - 1) × p < i × c ≤ d + f × p.
-pub record MakesLast (d p c f i : ℕ) : Type 0 where
-  pub first : 1 ≤ f
-  pub early : d + f * p < i * c + p
-  pub enough : i * c ≤ d + f * p
 
 pub last-feed : (d p c f i : ℕ) → 0 < c → MakesLast d p c f i → Feed d p c f i
 last-feed d p c f i h l = record { early = l .early; late = omega (arith, l .enough) }
@@ -26,20 +20,6 @@ last-once d p c f f′ i l l′ =
     let a = lt-of-mul-lt-mul-right p {m = f} {n = suc f′} (omega (arith, l .early, l′ .enough)) in
     let b = lt-of-mul-lt-mul-right p {m = f′} {n = suc f} (omega (arith, l′ .early, l .enough)) in
     omega arith
-
-module _ (G : Net) (D : G .Queue → ℕ) (start : ℕ → ℕ → ℕ) where
-  -- s is the finish of the copy that makes the last token that copy i of v takes along some queue.
-  pub record HeldByLast (v i s : ℕ) : Type 0 where
-    pub queue : G .Queue
-    pub copy : ℕ
-    pub to : G .sink queue ≡ v
-    pub last : MakesLast (D queue) (G .produced queue) (G .consumed queue) copy i
-    pub is : s ≡ finish G start (G .source queue) copy + G .cost queue
-
-  -- s is the latest finish among the copies that make the last tokens of copy i of v, else 0.
-  pub record LastStart (v i s : ℕ) : Type 0 where
-    pub after : (e : G .Queue) (f : ℕ) → G .sink e ≡ v → MakesLast (D e) (G .produced e) (G .consumed e) f i → finish G start (G .source e) f + G .cost e ≤ s
-    pub is : (s ≡ 0) ⊎ HeldByLast v i s
 
 -- it goes by the starts of those copies alone
 pub last-same : (G : Net) (D : G .Queue → ℕ) (start start′ : ℕ → ℕ → ℕ) (v i s : ℕ)

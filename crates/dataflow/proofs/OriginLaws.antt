@@ -7,16 +7,8 @@ use native.Mathlib.Decide.{decLt}
 use lib.Arith.{digits-div, digits-mod}
 use Rattle.dataflow.specs.Places.{placePut}
 use Rattle.dataflow.specs.Runs.{Token, initial, made, listFrom}
-use Rattle.dataflow.specs.Origin.{Origin, was-initial, was-made}
+use Rattle.dataflow.specs.Origin.{Origin, was-initial, was-made, tokenIf, tokenAt}
 use Rattle.dataflow.proofs.ListFrom.{from-ext}
-
--- the token at place x of a queue of delay d whose source puts p at a time
-abbrev pub tokenIf : (d p x : ℕ) → Dec (x < d) → Token
-tokenIf d p x (yes h) = initial x
-tokenIf d p x (no h) = made (suc ((x - d) / p)) (suc ((x - d) % p))
-
-abbrev pub tokenAt : (d p x : ℕ) → Token
-tokenAt d p x = tokenIf d p x (decLt x d)
 
 pub origin-is : (d p x : ℕ) → 0 < p → Origin d p x (tokenAt d p x)
 origin-is d p x hp = go (decLt x d)

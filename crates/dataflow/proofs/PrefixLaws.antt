@@ -2,7 +2,7 @@
 use mathlib.Core.Path.{_≡_, refl, sym, ap, subst, _∙_}
 use mathlib.Core.List.{List, [], _∷_, _++_, append-assoc, append-nil}
 use mathlib.Core.Logic.{inl, inr}
-use Prim.Native.Nat.{ℕ, suc, _+_, _*_, _≤_, _<_}
+use Prim.Native.Nat.{ℕ, suc, _+_, _≤_, _<_}
 use native.Mathlib.Omega.{arith}
 use native.Mathlib.Decide.{ℕ-discrete, decLt}
 use lib.ListN.{length, take, getD, length-append, List·getD-append}
@@ -11,7 +11,7 @@ use Rattle.lists.proofs.Order.{order}
 use Rattle.dataflow.specs.Net.{Net, Sound}
 use Rattle.dataflow.specs.Counts.{sum}
 use Rattle.dataflow.specs.Runs.{State, whenever, initially, fire, after, Run, ended, fires}
-use Rattle.dataflow.specs.Lists.{Next, FiringList, complete, next}
+use Rattle.dataflow.specs.Lists.{Next, FiringList, complete, next, FedBy, firedBy, Prefix, none, more}
 use Rattle.dataflow.proofs.SumLaws.{sum-none, sum-same, sum-less, sum-tight}
 use Rattle.dataflow.proofs.ListLaws.{sum-one, list-length}
 use Rattle.dataflow.proofs.RunLaws.{HoldsAt, holds}
@@ -21,29 +21,16 @@ use Rattle.dataflow.proofs.StallLaws.{Short}
 use Rattle.dataflow.proofs.CompleteLaws.{Stalled, short-of}
 
 module _ (G : Net) (D : G .Queue → ℕ) where
-  -- With the firings F done, every queue into v has the tokens of one more.
-  abbrev pub FedBy : (F : ℕ → ℕ) (v : ℕ) → Type 0
-  FedBy F v = (e : G .Queue) → G .sink e ≡ v → suc (F v) * G .consumed e ≤ D e + F (G .source e) * G .produced e
-
-  -- How often each station has fired after a list.
-  abbrev pub firedBy : List ℕ → ℕ → ℕ
-  firedBy l = after G (initially G D) l .fired
-
-  pub fired-more : (l : List ℕ) (v w : ℕ) → firedBy (l ++ (v ∷ [])) w ≡ firedBy l w + whenever (ℕ-discrete w v) 1
+  pub fired-more : (l : List ℕ) (v w : ℕ) → firedBy G D (l ++ (v ∷ [])) w ≡ firedBy G D l w + whenever (ℕ-discrete w v) 1
   fired-more l v w = ap (λ (S : State G). S .fired w) (after-append G (initially G D) l (v ∷ []))
 
   module _ (wanted : ℕ → ℕ) where
-    -- Each entry so far was the lowest-numbered station that could fire.
-    pub data Prefix : List ℕ → Type 0 where
-      none : Prefix []
-      more : {l : List ℕ} {v : ℕ} → Prefix l → Next G wanted (after G (initially G D) l) v → Prefix (l ++ (v ∷ []))
-
-    pub prefix-run : {l : List ℕ} → Prefix l → Run G (initially G D) l
+    pub prefix-run : {l : List ℕ} → Prefix G D wanted l → Run G (initially G D) l
     prefix-run none = ended
     prefix-run (more p n) = run-append G (prefix-run p) (fires (n .station) (n .ready) ended)
 
-    pub prefix-next : {l : List ℕ} → Prefix l → (v : ℕ) → v < G .stations → firedBy l v < wanted v → FedBy (firedBy l) v
-        → ((w : ℕ) → w < v → firedBy l w < wanted w → ¬ FedBy (firedBy l) w) → Prefix (l ++ (v ∷ []))
+    pub prefix-next : {l : List ℕ} → Prefix G D wanted l → (v : ℕ) → v < G .stations → firedBy G D l v < wanted v → FedBy G D (firedBy G D l) v
+        → ((w : ℕ) → w < v → firedBy G D l w < wanted w → ¬ FedBy G D (firedBy G D l) w) → Prefix G D wanted (l ++ (v ∷ []))
     prefix-next {l} p v here left fed lower =
         let S = after G (initially G D) l in
         let h = holds G D (prefix-run p) in
@@ -54,36 +41,36 @@ module _ (G : Net) (D : G .Queue → ℕ) where
           lowest = λ w k a r. lower w k a (ready-counts G D S h w r);
         })
 
-    pub prefix-list : {l m : List ℕ} → Prefix l → FiringList G wanted (after G (initially G D) l) m → FiringList G wanted (initially G D) (l ++ m)
+    pub prefix-list : {l m : List ℕ} → Prefix G D wanted l → FiringList G wanted (after G (initially G D) l) m → FiringList G wanted (initially G D) (l ++ m)
     prefix-list none f = f
     prefix-list {m = m} (more {l = l} {v = v} p n) f =
         rw (append-assoc l (v ∷ []) m) (prefix-list p (next n (rw (after-append G (initially G D) l (v ∷ [])) at f)))
 
     -- no station has fired more often than wanted, and each entry is a firing
-    pub prefix-few : {l : List ℕ} → Prefix l → (v : ℕ) → firedBy l v ≤ wanted v
+    pub prefix-few : {l : List ℕ} → Prefix G D wanted l → (v : ℕ) → firedBy G D l v ≤ wanted v
     prefix-few none v = omega arith
     prefix-few (more {l = l} {v = w} p n) v = rw (fired-more l w v) (go (ℕ-discrete v w) (prefix-few p v))
       where
-        go : (x : Dec (v ≡ w)) → firedBy l v ≤ wanted v → firedBy l v + whenever x 1 ≤ wanted v
+        go : (x : Dec (v ≡ w)) → firedBy G D l v ≤ wanted v → firedBy G D l v + whenever x 1 ≤ wanted v
         go (yes x) ih = rw x (omega (arith, n .left))
         go (no x) ih = omega arith
 
-    pub prefix-length : {l : List ℕ} → Prefix l → length l ≡ sum (G .stations) (firedBy l)
+    pub prefix-length : {l : List ℕ} → Prefix G D wanted l → length l ≡ sum (G .stations) (firedBy G D l)
     prefix-length none = sym (sum-none (G .stations))
     prefix-length (more {l = l} {v = v} p n) =
-        omega (arith, length-append l (v ∷ []), prefix-length p, sum-same (G .stations) (firedBy (l ++ (v ∷ []))) (λ w. firedBy l w + whenever (ℕ-discrete w v) 1) (λ w k. fired-more l v w), sum-one (G .stations) (firedBy l) v (n .station))
+        omega (arith, length-append l (v ∷ []), prefix-length p, sum-same (G .stations) (firedBy G D (l ++ (v ∷ []))) (λ w. firedBy G D l w + whenever (ℕ-discrete w v) 1) (λ w k. fired-more l v w), sum-one (G .stations) (firedBy G D l) v (n .station))
 
     -- as many entries as firings wanted: the list is complete
-    pub prefix-whole : {l : List ℕ} → Prefix l → length l ≡ sum (G .stations) wanted → FiringList G wanted (initially G D) l
+    pub prefix-whole : {l : List ℕ} → Prefix G D wanted l → length l ≡ sum (G .stations) wanted → FiringList G wanted (initially G D) l
     prefix-whole {l} p e =
-        rw (append-nil l) at (prefix-list p (complete (sum-tight (G .stations) (firedBy l) wanted (prefix-few p) (omega (arith, prefix-length p)))))
+        rw (append-nil l) at (prefix-list p (complete (sum-tight (G .stations) (firedBy G D l) wanted (prefix-few p) (omega (arith, prefix-length p)))))
 
     -- fewer, and no station can fire: the list stalls
-    pub prefix-stalled : Sound G → {l : List ℕ} → Prefix l → length l < sum (G .stations) wanted → ((w : ℕ) → firedBy l w < wanted w → ¬ FedBy (firedBy l) w) → Stalled G wanted D
-    prefix-stalled W {l} p few none-can = record { fired = firedBy l; v = some .0; left = some .2; short = short }
+    pub prefix-stalled : Sound G → {l : List ℕ} → Prefix G D wanted l → length l < sum (G .stations) wanted → ((w : ℕ) → firedBy G D l w < wanted w → ¬ FedBy G D (firedBy G D l) w) → Stalled G wanted D
+    prefix-stalled W {l} p few none-can = record { fired = firedBy G D l; v = some .0; left = some .2; short = short }
       where
-        some : (v : ℕ) × (v < G .stations) × (firedBy l v < wanted v)
-        some = sum-less (G .stations) (firedBy l) wanted (omega (arith, prefix-length p))
+        some : (v : ℕ) × (v < G .stations) × (firedBy G D l v < wanted v)
+        some = sum-less (G .stations) (firedBy G D l) wanted (omega (arith, prefix-length p))
 
         S : State G
         S = after G (initially G D) l
@@ -91,7 +78,7 @@ module _ (G : Net) (D : G .Queue → ℕ) where
         h : (e : G .Queue) → HoldsAt G D S e
         h = holds G D (prefix-run p)
 
-        short : (w : ℕ) → firedBy l w < wanted w → Short G D (firedBy l) w
+        short : (w : ℕ) → firedBy G D l w < wanted w → Short G D (firedBy G D l) w
         short w k = elim (ready-or-lacking G W S w) [ inl r ↦ absurd (none-can w k (ready-counts G D S h w r)) | inr r ↦ short-of G D S h w r ]
 
   module _ (wanted : ℕ → ℕ) where
@@ -99,7 +86,7 @@ module _ (G : Net) (D : G .Queue → ℕ) where
     next-once S v w n k =
         order v w (λ lt. absurd (k .lowest v lt (n .left) (n .ready))) (λ eq. eq) (λ gt. absurd (n .lowest w gt (k .left) (k .ready)))
 
-    prefix-at : {l : List ℕ} → Prefix wanted l → (k : ℕ) → k < length l → Next G wanted (after G (initially G D) (take k l)) (getD l k 0)
+    prefix-at : {l : List ℕ} → Prefix G D wanted l → (k : ℕ) → k < length l → Next G wanted (after G (initially G D) (take k l)) (getD l k 0)
     prefix-at none k h = absurd (omega arith)
     prefix-at (more {l = l} {v = v} p n) k h = go (decLt k (length l)) (λ b. prefix-at p k b)
       where
@@ -110,7 +97,7 @@ module _ (G : Net) (D : G .Queue → ℕ) where
             rw (e, take-append-seam l (v ∷ []), getD-append-seam l v [] 0) n
 
     -- of two lists in the making the shorter is the front of the longer
-    pub prefix-front : {l l′ : List ℕ} → Prefix wanted l → Prefix wanted l′ → length l ≤ length l′ → l ≡ take (length l) l′
+    pub prefix-front : {l l′ : List ℕ} → Prefix G D wanted l → Prefix G D wanted l′ → length l ≤ length l′ → l ≡ take (length l) l′
     prefix-front none p′ h = refl
     prefix-front {l′ = l′} (more {l = l} {v = v} p n) p′ h =
         let b : length l < length l′ = omega (arith, length-append l (v ∷ [])) in
@@ -120,7 +107,7 @@ module _ (G : Net) (D : G .Queue → ℕ) where
         rw (e, take-suc l′ (length l) 0 b, ← here, ← front) refl
 
     -- none is longer than one after which no station can fire
-    pub prefix-longest : {l l′ : List ℕ} → Prefix wanted l → Prefix wanted l′ → ((w : ℕ) → firedBy l w < wanted w → ¬ FedBy (firedBy l) w) → length l′ ≤ length l
+    pub prefix-longest : {l l′ : List ℕ} → Prefix G D wanted l → Prefix G D wanted l′ → ((w : ℕ) → firedBy G D l w < wanted w → ¬ FedBy G D (firedBy G D l) w) → length l′ ≤ length l
     prefix-longest {l} {l′} p p′ none-can = elim (decLt (length l) (length l′)) [ yes b ↦ absurd (go b) | no b ↦ omega arith ]
       where
         go : length l < length l′ → ⊥
@@ -129,11 +116,11 @@ module _ (G : Net) (D : G .Queue → ℕ) where
             let n = subst (λ (x : List ℕ). Next G wanted (after G (initially G D) x) (getD l′ (length l) 0)) (sym front) (prefix-at p′ (length l) b) in
             none-can (getD l′ (length l) 0) (n .left) (ready-counts G D (after G (initially G D) l) (holds G D (prefix-run wanted p)) (getD l′ (length l) 0) (n .ready))
 
-    list-prefix : {S : State G} {m : List ℕ} (l : List ℕ) → S ≡ after G (initially G D) l → Prefix wanted l → FiringList G wanted S m → Prefix wanted (l ++ m)
+    list-prefix : {S : State G} {m : List ℕ} (l : List ℕ) → S ≡ after G (initially G D) l → Prefix G D wanted l → FiringList G wanted S m → Prefix G D wanted (l ++ m)
     list-prefix l e p (complete h) = rw (append-nil l) p
     list-prefix l e p (next {v = v} {l = m} n t) =
         rw (sym (append-assoc l (v ∷ []) m)) (list-prefix (l ++ (v ∷ [])) (ap (fire G v) e ∙ sym (after-append G (initially G D) l (v ∷ []))) (more p (rw e at n)) t)
 
     -- where firings are left and no station that has some can fire, no list is complete
-    pub stalled-cannot : {l : List ℕ} → Prefix wanted l → length l < sum (G .stations) wanted → ((w : ℕ) → firedBy l w < wanted w → ¬ FedBy (firedBy l) w) → (l′ : List ℕ) → ¬ FiringList G wanted (initially G D) l′
+    pub stalled-cannot : {l : List ℕ} → Prefix G D wanted l → length l < sum (G .stations) wanted → ((w : ℕ) → firedBy G D l w < wanted w → ¬ FedBy G D (firedBy G D l) w) → (l′ : List ℕ) → ¬ FiringList G wanted (initially G D) l′
     stalled-cannot p few none-can l′ f = omega (arith, prefix-longest p (list-prefix [] refl none f) none-can, list-length G wanted f, sum-none (G .stations))

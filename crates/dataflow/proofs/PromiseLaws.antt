@@ -15,15 +15,16 @@ use Rattle.dataflow.specs.Promise.{Plan, PlanHolds, Promise, MadeBefore,
 use Rattle.dataflow.proofs.FeedLaws.{Feed}
 use Rattle.dataflow.proofs.CopyLaws.{inside, inside-of}
 use Rattle.dataflow.proofs.ListFrom.{from-in, in-from}
-use Rattle.dataflow.proofs.OriginLaws.{tokenAt, token-made}
+use Rattle.dataflow.proofs.OriginLaws.{token-made}
 use Rattle.dataflow.specs.Whole.{up, down}
+use Rattle.dataflow.specs.Origin.{tokenAt}
 use Rattle.dataflow.proofs.WholeLaws.{delay-is, Retimed, retimed-is}
 use Rattle.dataflow.proofs.RunLaws.{Holds, holds, holds-length}
 use Rattle.dataflow.proofs.TakenLaws.{after-append, run-append, taken-is, same-in-every-run}
-use Rattle.dataflow.proofs.RankLaws.{round-ranked}
+use Rattle.dataflow.proofs.RankLaws.{Ranked, round-ranked}
 use Rattle.dataflow.proofs.ListLaws.{list-run, list-fired}
 use Rattle.dataflow.proofs.StuckLaws.{round-of-list}
-use Rattle.dataflow.proofs.TimeLaws.{table-sums}
+use Rattle.dataflow.proofs.TimeLaws.{table-sums, starts-rise}
 use Rattle.dataflow.proofs.RepeatLaws.{after-start, rounds-run, rounds-leave, rounds-fire}
 
 -- A token that firing g + j of the sink takes was there when g firings of the sink and f of the source were done, or a firing f + h makes it,
@@ -107,9 +108,15 @@ module _ (G : Net) (W : Sound G) (d : G .Queue → ℕ) (T : ℕ) (P : Plan G) (
               inr (made-before (new-token (d e) (G .produced e) (G .consumed e) f g (P .delay e) j i (W .makes e)
               (omega (arith, holds-length (d e) (G .produced e) (G .consumed e) f g (S .holds e) h, from-new-delays k e)) hi (c .low) (omega arith)) ex)
 
+  can-be-fired : Ranked G (P .delay) (G .q) (length (P .round))
+  can-be-fired = round-ranked G W (P .delay) (round-of-list G W (P .delay) (P .round) (H .round))
+
+  in-order : (v i j : ℕ) → Copy G v i → Copy G v j → i ≤ j → P .times v i ≤ P .times v j
+  in-order v i j c c′ le = starts-rise G W (P .delay) _ can-be-fired (P .times) (H .times) v i j c le (c′ .high)
+
   in-time : (v i : ℕ) → Copy G v i → P .times v i + G .time v ≤ T
   in-time v i c =
-      let p = table-sums G W (P .delay) _ (round-ranked G W (P .delay) (round-of-list G W (P .delay) (P .round) (H .round))) (P .times) (H .times) .reached v i c in
+      let p = table-sums G W (P .delay) _ can-be-fired (P .times) (H .times) .reached v i c in
       let w = rw (retimed-is G d (P .retiming) (P .delay) plan-retimed) at (H .retiming .serves .within) in
       w (p .0) (p .1) v i _ (p .2)
 
@@ -121,6 +128,7 @@ module _ (G : Net) (W : Sound G) (d : G .Queue → ℕ) (T : ℕ) (P : Plan G) (
       same-tokens = λ k l run e n t t′ a b. same-in-every-run G d (fired G d P k) l (never-short k) run e n t t′ a b;
       from-new-delays = from-new-delays;
       fired-by-then = fired-by-then;
+      in-order = in-order;
       side-by-side = side-by-side;
       in-time = in-time;
     };

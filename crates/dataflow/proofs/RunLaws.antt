@@ -9,8 +9,9 @@ use native.Mathlib.Decide.{ℕ-discrete}
 use lib.ListN.{length, take, drop}
 use Rattle.dataflow.specs.Net.{Net}
 use Rattle.dataflow.specs.Runs.{Token, made, listFrom, whenever, State, initially, fire, after, Ready, Run, ended, fires}
+use Rattle.dataflow.specs.Origin.{tokenAt}
 use Rattle.dataflow.proofs.ListFrom.{length-from, from-append, from-drop, from-take}
-use Rattle.dataflow.proofs.OriginLaws.{tokenAt, from-made, from-initial}
+use Rattle.dataflow.proofs.OriginLaws.{from-made, from-initial}
 
 -- What a queue holds when its source has fired f times and its sink g times: the tokens of places g × c up to d + f × p - 1.
 pub record Holds (d p c f g : ℕ) (l : List Token) : Type 0 where

@@ -7,10 +7,10 @@ use native.Mathlib.Decide.{ℕ-discrete, decLt}
 use lib.ListN.{getD}
 use Rattle.dataflow.specs.Net.{Net, Sound}
 use Rattle.dataflow.specs.Runs.{Token, initial, listFrom, whenever, State, initially, fire, after, Ready, Run, ended, fires, TakenBy}
-use Rattle.dataflow.specs.Origin.{Origin, placeTaken}
+use Rattle.dataflow.specs.Origin.{Origin, placeTaken, tokenAt}
 use Rattle.dataflow.specs.Promise.{OriginPromise}
 use Rattle.dataflow.proofs.ListFrom.{from-at}
-use Rattle.dataflow.proofs.OriginLaws.{tokenAt, origin-is, origin-once}
+use Rattle.dataflow.proofs.OriginLaws.{origin-is, origin-once}
 use Rattle.dataflow.proofs.RunLaws.{holds-take, holds, HoldsAt, holds-length}
 
 module _ (G : Net) where

@@ -11,7 +11,7 @@ use Rattle.dataflow.specs.Net.{Net, Sound}
 use Rattle.dataflow.specs.Whole.{up, down}
 use Rattle.dataflow.specs.Counts.{sum}
 use Rattle.dataflow.specs.Paths.{Within}
-use Rattle.dataflow.specs.Retiming.{NotNegative, amount, whole, newDelay, Legal, retimed, Serves}
+use Rattle.dataflow.specs.Retiming.{NotNegative, whole, newDelay, Legal, retimed, Serves}
 use Rattle.dataflow.proofs.SumLaws.{sum-above}
 
 -- x - y = a - b, with nothing taken away
@@ -97,7 +97,7 @@ module _ (G : Net) (d : G .Queue → ℕ) where
   pub new-delay : (r : ℕ → ℤ) → Legal G d r → (e : G .Queue) → newDelay G d r e ≡ pos (retimed G d r e)
   new-delay r legal e = go (newDelay G d r e) (legal e)
     where
-      go : (z : ℤ) → NotNegative z → z ≡ pos (amount z)
+      go : (z : ℤ) → NotNegative z → z ≡ pos (up z)
       go (pos n) h = refl
       go (negsuc n) h = absurd h
 
@@ -114,7 +114,7 @@ module _ (G : Net) (d : G .Queue → ℕ) where
   legal-whole r D h e = rw (whole-retimed r D h e) tt
 
   pub retimed-is : (r : ℕ → ℕ) (D : G .Queue → ℕ) → Retimed r D → retimed G d (whole r) ≡ D
-  retimed-is r D h = fun-ext (λ e. ap amount (whole-retimed r D h e))
+  retimed-is r D h = fun-ext (λ e. ap up (whole-retimed r D h e))
 
   pub retimed-same : (r r′ : ℕ → ℕ) (D : G .Queue → ℕ) → Retimed r D → ((v : ℕ) → r′ v ≡ r v) → Retimed r′ D
   retimed-same r r′ D h eq e = rw (eq (G .source e), eq (G .sink e)) (h e)
@@ -150,6 +150,6 @@ module _ (G : Net) (d : G .Queue → ℕ) where
   pub serves-round : (W : Sound G) (T : ℕ) (r : ℕ → ℤ) → Serves G d T r ↔ Serves G d T (λ v. r v +ℤ pos (G .q v))
   serves-round W T r =
       let delays : newDelay G d (λ v. r v +ℤ pos (G .q v)) ≡ newDelay G d r = fun-ext (same-delays W r) in (
-        (λ s. record { legal = λ e. rw (same-delays W r e) (s .legal e); within = subst (λ (D : G .Queue → ℤ). Within G (λ e. amount (D e)) T) (sym delays) (s .within) }),
-        λ s. record { legal = λ e. rw (same-delays W r e) at (s .legal e); within = subst (λ (D : G .Queue → ℤ). Within G (λ e. amount (D e)) T) delays (s .within) },
+        (λ s. record { legal = λ e. rw (same-delays W r e) (s .legal e); within = subst (λ (D : G .Queue → ℤ). Within G (λ e. up (D e)) T) (sym delays) (s .within) }),
+        λ s. record { legal = λ e. rw (same-delays W r e) at (s .legal e); within = subst (λ (D : G .Queue → ℤ). Within G (λ e. up (D e)) T) delays (s .within) },
       )

@@ -1,9 +1,9 @@
 -- Back, the start list and the round list.
 use mathlib.Core.Path.{_≡_}
 use mathlib.Core.List.{List, [], _∷_, _++_}
-use Prim.Native.Nat.{ℕ, zero, suc, _-_, _*_, _≤_, _<_}
+use Prim.Native.Nat.{ℕ, zero, suc, _+_, _-_, _*_, _≤_, _<_}
 use Rattle.dataflow.specs.Net.{Net}
-use Rattle.dataflow.specs.Runs.{State, fire, initially, Ready}
+use Rattle.dataflow.specs.Runs.{State, fire, initially, after, Ready}
 
 module _ (G : Net) where
   -- c × q(v) ≥ r(v) for all v
@@ -35,6 +35,21 @@ module _ (G : Net) where
   -- The round list fires v exactly q(v) times from the new delays.
   abbrev pub RoundList : (D : G .Queue → ℕ) → List ℕ → Type 0
   RoundList D = FiringList (G .q) (initially G D)
+
+-- A list in the making, from the delays D.
+module _ (G : Net) (D : G .Queue → ℕ) where
+  -- With the firings F done, every queue into v has the tokens of one more.
+  abbrev pub FedBy : (F : ℕ → ℕ) (v : ℕ) → Type 0
+  FedBy F v = (e : G .Queue) → G .sink e ≡ v → suc (F v) * G .consumed e ≤ D e + F (G .source e) * G .produced e
+
+  -- How often each station has fired after a list.
+  abbrev pub firedBy : List ℕ → ℕ → ℕ
+  firedBy l = after G (initially G D) l .fired
+
+  -- Each entry so far was the lowest-numbered station that could fire.
+  pub data Prefix (wanted : ℕ → ℕ) : List ℕ → Type 0 where
+    none : Prefix wanted []
+    more : {l : List ℕ} {v : ℕ} → Prefix wanted l → Next G wanted (after G (initially G D) l) v → Prefix wanted (l ++ (v ∷ []))
 
 -- a list, k times over
 abbrev pub repeated : {A : Type 0} → ℕ → List A → List A

@@ -62,13 +62,14 @@ module _ (G : Net) (d : G .Queue → ℕ) (T : ℕ) (P : Plan G) where
     pub times : TimeTable G (P .delay) (P .times)
 
   -- Demand 3. Run one station at a time no queue runs short, each firing takes the tokens that it takes in any run of the sheet, and each round begins from the new delays.
-  -- Run side by side by the time table, where copy j of round k is the j-th firing after that round began: every token that it takes was there when the round began or
-  -- its maker has finished, and all finish within the target.
+  -- Run side by side by the time table, a station's copies start in their order, so that copy j of round k is the j-th firing after that round began. Every token that it
+  -- takes was there when the round began or its maker has finished, and all finish within the target.
   pub record PlanRuns : Type 0 where
     pub never-short : (k : ℕ) → Run G (initially G d) (fired G d P k)
     pub same-tokens : (k : ℕ) (l : List ℕ) → Run G (initially G d) l → (e : G .Queue) (n : ℕ) (t t′ : List Token) → TakenBy G d (fired G d P k) e n t → TakenBy G d l e n t′ → t ≡ t′
     pub from-new-delays : (k : ℕ) (e : G .Queue) → length (roundBegins G d P k .holds e) ≡ P .delay e
     pub fired-by-then : (k v : ℕ) → v < G .stations → roundBegins G d P k .fired v ≡ P .back * G .q v - P .retiming v + k * G .q v
+    pub in-order : (v i j : ℕ) → Copy G v i → Copy G v j → i ≤ j → P .times v i ≤ P .times v j
     pub side-by-side : (k : ℕ) (e : G .Queue) (j : ℕ) → Copy G (G .sink e) j → (t : List Token) → TakenBy G d (fired G d P (suc k)) e (roundBegins G d P k .fired (G .sink e) + j) t
         → (x : Token) → List·Memᴰ x t → List·Memᴰ x (roundBegins G d P k .holds e) ⊎ MadeBefore G d P k e j x
     pub in-time : (v i : ℕ) → Copy G v i → finish G (P .times) v i ≤ T

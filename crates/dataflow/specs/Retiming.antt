@@ -3,17 +3,13 @@ use mathlib.Core.List.{List}
 use Prim.Native.Nat.{ℕ, _≤_, _<_}
 use lib.ListN.{getD}
 use lib.IntN.{ℤ, pos, negsuc, _+ℤ_, _-ℤ_, _*ℤ_}
+use Rattle.dataflow.specs.Whole.{up}
 use Rattle.dataflow.specs.Net.{Net}
 use Rattle.dataflow.specs.Paths.{Within}
 
 abbrev pub NotNegative : ℤ → Type 0
 NotNegative (pos n) = Unit {0}
 NotNegative (negsuc n) = ⊥
-
--- a number that is not negative, as the number of tokens that it is
-abbrev pub amount : ℤ → ℕ
-amount (pos n) = n
-amount (negsuc n) = 0
 
 -- Natural numbers as a retiming: one with no negative entry.
 abbrev pub whole : (ℕ → ℕ) → ℕ → ℤ
@@ -32,9 +28,9 @@ module _ (G : Net) (d : G .Queue → ℕ) where
   abbrev pub Legal : (r : ℕ → ℤ) → Type 0
   Legal r = (e : G .Queue) → NotNegative (newDelay r e)
 
-  -- The new delays of a legal retiming, as numbers of tokens.
+  -- The new delays of a legal retiming as numbers of tokens; none has a part below 0.
   abbrev pub retimed : (r : ℕ → ℤ) → G .Queue → ℕ
-  retimed r e = amount (newDelay r e)
+  retimed r e = up (newDelay r e)
 
   -- r serves the target T.
   pub record Serves (T : ℕ) (r : ℕ → ℤ) : Type 0 where

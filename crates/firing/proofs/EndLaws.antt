@@ -1,19 +1,15 @@
 -- The laws of what a time table tells: the latest finish and the late copies, found step by step.
 use Prim.Native.Nat.{ℕ, suc, _+_, _-_, _≤_, _<_, max}
-use mathlib.Core.Path.{_≡_, refl, _∙_}
+use mathlib.Core.Path.{_≡_, refl}
 use mathlib.Core.List.{List}
 use mathlib.Core.Logic.{_⊎_, inl, inr, ⊎-elim}
 use native.Mathlib.Omega.{arith}
 use native.Mathlib.Numerals.{add-one}
-use lib.ListN.{length, set, replicate}
-use lib.Seq.{getD-set-same, getD-set-other}
 use Rattle.lists.specs.Front.{at}
-use Rattle.lists.proofs.StoreLaws.{at-zeros}
 use Rattle.lists.proofs.Order.{order, lt-or-ge}
-use Rattle.dataflow.specs.Counts.{sum}
 use Rattle.dataflow.specs.Search.{none, this, other}
 use Rattle.dataflow.proofs.SumLaws.{sum-before}
-use Rattle.firing.specs.Late.{Readable, lastEnd, LatestEnd, EndsAfter, LateCounts}
+use Rattle.firing.specs.Late.{Readable, lastEnd, LatestEnd, EndsAfter}
 
 -- a copy's place is within the table
 pub place-of : (n : ℕ) {q base table : List ℕ} → Readable n q base table → (v : ℕ) → v < n → at base v + at q v ≤ 256
@@ -54,19 +50,3 @@ module _ (target from time : ℕ) (table : List ℕ) where
 
   pub ends-in-time : {i k : ℕ} → EndsAfter target from time i table k → at table (from + i) + time ≤ target → EndsAfter target from time (i + 1) table k
   ends-in-time {i} h l = let e : suc i - 1 ≡ i = omega arith in rw (add-one i) (other h (λ x. omega (arith, rw e at x)))
-
-module _ (q time : List ℕ) (target : ℕ) (table : List ℕ) where
-  pub no-counts : LateCounts 0 q time target table (replicate 32 0)
-  no-counts = record { many = λ v h. absurd (omega arith); beyond = λ v h. at-zeros 32 v }
-
-  -- one station more
-  pub count-more : (v : ℕ) {late : List ℕ} (x : ℕ) → v < length late → EndsAfter target (sum v (at q)) (at time v) (at q v) table x → LateCounts v q time target table late
-      → LateCounts (v + 1) q time target table (set late v x)
-  count-more v {late} x h e c = record {
-    many = λ u l.
-        order u v
-        (λ lt. rw (getD-set-other late v u x 0 (λ z. omega arith)) (c .many u lt))
-        (λ eq. rw (eq, getD-set-same late v x 0 h) e)
-        (λ gt. absurd (omega arith));
-    beyond = λ u l. getD-set-other late v u x 0 (λ z. omega arith) ∙ c .beyond u (omega arith);
-  }

@@ -17,9 +17,10 @@ use Rattle.lists.proofs.TestLaws.{differ}
 use Rattle.dataflow.specs.Net.{Net}
 use Rattle.dataflow.specs.Runs.{whenever}
 use Rattle.dataflow.specs.Sheet.{Below}
+use Rattle.dataflow.specs.Lists.{FedBy, firedBy, Prefix, none}
 use Rattle.dataflow.proofs.SumLaws.{sum-above, sum-none}
 use Rattle.dataflow.proofs.ListLaws.{list-length}
-use Rattle.dataflow.proofs.PrefixLaws.{FedBy, firedBy, fired-more, Prefix, none, prefix-next, prefix-few, prefix-whole}
+use Rattle.dataflow.proofs.PrefixLaws.{fired-more, prefix-next, prefix-few, prefix-whole}
 use Rattle.chain.specs.Chain.{netOf, delaysOf}
 use Rattle.firing.specs.Scan.{Fed, Can, LowestThatCan}
 use Rattle.firing.specs.Fire.{Wanted, Fires}

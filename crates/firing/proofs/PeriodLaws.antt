@@ -104,6 +104,6 @@ module _ (n m : ℕ) (source sink produced consumed delay time q : List ℕ) (to
       pub late-is : (T : ℕ) {late : List ℕ} → LateCounts n q time T table late → (v : ℕ) → HowMany (Late G D T v) (at q v) (at late v)
       late-is T l v =
           ⊎-elim
-          (λ h. many-same (λ i a b. after-late T v i (record { low = a; high = b })) (λ i a b. late-after T v i) (l .many v h))
-          (λ h. rw (c .beyond v h, l .beyond v h) none)
+          (λ h. many-same (λ i a b. after-late T v i (record { low = a; high = b })) (λ i a b. late-after T v i) (l .is v h))
+          (λ h. rw (c .beyond v h, l .rest v h) none)
           (lt-or-ge v n)

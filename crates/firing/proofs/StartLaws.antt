@@ -8,9 +8,9 @@ use native.Mathlib.Omega.{arith}
 use Rattle.lists.specs.Front.{at}
 use Rattle.lists.proofs.Order.{order, lt-or-ge}
 use Rattle.dataflow.specs.Counts.{sum}
-use Rattle.dataflow.specs.Times.{entry}
-use Rattle.dataflow.proofs.SumLaws.{sum-above, sum-before}
-use Rattle.dataflow.proofs.LastLaws.{MakesLast, last-once, HeldByLast}
+use Rattle.dataflow.specs.Times.{entry, MakesLast, HeldByLast}
+use Rattle.dataflow.proofs.SumLaws.{sum-before}
+use Rattle.dataflow.proofs.LastLaws.{last-once}
 use Rattle.firing.specs.Into.{FirstInto}
 use Rattle.chain.specs.Chain.{CountedChain, netOf, delaysOf}
 use Rattle.firing.specs.Times.{HoldsUp, HeldSmall, Waits, StartsAt}
@@ -96,10 +96,6 @@ module _ (n m : ℕ) (source sink produced consumed delay time q fired table : L
 
 module _ {n m total : ℕ} {source sink produced consumed delay q base fired table : List ℕ} {v : ℕ} (c : CountedChain n m source sink produced consumed q total)
     (w : Waits n m source sink produced consumed delay q base fired table v) where
-  -- counts, and so firings, are few
-  pub count-few : (u : ℕ) → u < n → at q u ≤ 256
-  count-few u h = omega (arith, sum-above n (at q) u h, c .adds, c .few)
-
   -- the maker of a last token has fired, so it has its place in the table
   pub held-small : (e : ℕ) → e < m → at sink e ≡ v → HeldSmall (at delay e) ((at fired v + 1) * at consumed e) (at produced e) (at base (at source e)) table
   held-small e h to =

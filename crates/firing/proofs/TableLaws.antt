@@ -17,13 +17,14 @@ use Rattle.dataflow.specs.Counts.{sum}
 use Rattle.dataflow.specs.Copies.{Copy}
 use Rattle.dataflow.specs.Runs.{State, whenever, initially, fire, after, Run, fires}
 use Rattle.dataflow.specs.Sheet.{Below}
-use Rattle.dataflow.specs.Times.{entry}
+use Rattle.dataflow.specs.Times.{entry, MakesLast, LastStart}
+use Rattle.dataflow.specs.Lists.{firedBy}
 use Rattle.dataflow.proofs.SumLaws.{sum-before}
 use Rattle.dataflow.proofs.RunLaws.{holds, holds-length}
 use Rattle.dataflow.proofs.TakenLaws.{after-append, after-rises, run-front, run-rest, run-ready, ready-counts}
-use Rattle.dataflow.proofs.PrefixLaws.{firedBy, fired-more}
+use Rattle.dataflow.proofs.PrefixLaws.{fired-more}
 use Rattle.dataflow.proofs.RankLaws.{round-ranked}
-use Rattle.dataflow.proofs.LastLaws.{MakesLast, LastStart, last-same, last-table}
+use Rattle.dataflow.proofs.LastLaws.{last-same, last-table}
 use Rattle.chain.specs.Chain.{CountedChain, netOf, delaysOf}
 use Rattle.firing.specs.Times.{Bases, Ordered, Tabled, Waits, StartsAt}
 use Rattle.chain.proofs.ChainLaws.{sound}

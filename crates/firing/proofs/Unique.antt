@@ -10,6 +10,7 @@ use lib.Seq.{ext-getD, take-all}
 use Rattle.lists.specs.Front.{at}
 use Rattle.lists.specs.Put.{put}
 use Rattle.lists.proofs.Order.{order, lt-or-ge}
+use Rattle.lists.proofs.FilledLaws.{filled-once}
 use Rattle.dataflow.specs.Net.{Net}
 use Rattle.dataflow.specs.Counts.{sum}
 use Rattle.dataflow.specs.Sheet.{Below}
@@ -114,6 +115,4 @@ latest-end-unique n q time table r r′ p p′ =
 
 -- of the late copies
 pub late-counts-unique : (n : ℕ) (q time : List ℕ) (target : ℕ) (table late late′ : List ℕ) → LateCounts n q time target table late → LateCounts n q time target table late′ → length late ≡ length late′ → late ≡ late′
-late-counts-unique n q time target table late late′ p p′ l =
-    ext-getD 0 late late′ l
-    (λ v h. ⊎-elim (λ b. many-once _ (p .many v b) (p′ .many v b)) (λ b. p .beyond v b ∙ sym (p′ .beyond v b)) (lt-or-ge v n))
+late-counts-unique n q time target table late late′ = filled-once n late late′ (λ v x y b. many-once _)

@@ -8,8 +8,7 @@ use Rattle.lists.specs.Front.{at}
 use Rattle.lists.specs.Put.{put}
 use Rattle.dataflow.specs.Counts.{sum}
 use Rattle.dataflow.specs.Runs.{initially}
-use Rattle.dataflow.specs.Lists.{FiringList}
-use Rattle.dataflow.proofs.PrefixLaws.{FedBy, firedBy, Prefix}
+use Rattle.dataflow.specs.Lists.{FiringList, FedBy, firedBy, Prefix}
 use Rattle.chain.specs.Chain.{netOf, delaysOf}
 
 -- how often each station is to fire, total in all

@@ -1,8 +1,9 @@
--- What a time table tells: its latest finish, and the copies of each station that finish late.
+-- What a time table tells: the latest finish of a last copy, which is the latest of all, and the copies of each station that finish late.
 use Prim.Native.Nat.{ℕ, _+_, _-_, _≤_, _<_}
 use mathlib.Core.Path.{_≡_}
 use mathlib.Core.List.{List}
 use Rattle.lists.specs.Front.{at}
+use Rattle.lists.specs.Filled.{Filled}
 use Rattle.dataflow.specs.Counts.{sum}
 use Rattle.dataflow.specs.Search.{HowMany}
 use Rattle.firing.specs.Times.{Bases}
@@ -24,7 +25,7 @@ endOf from time table i = at table (from + (i - 1)) + time
 abbrev pub lastEnd : (q time table : List ℕ) (v : ℕ) → ℕ
 lastEnd q time table v = endOf (sum v (at q)) (at time v) table (at q v)
 
--- r is the latest of these finishes
+-- r is the latest of these finishes; a station's last copy is its latest, so it is the latest finish of the whole table
 pub record LatestEnd (n : ℕ) (q time table : List ℕ) (r : ℕ) : Type 0 where
   pub above : (v : ℕ) → v < n → lastEnd q time table v ≤ r
   pub reached : (v : ℕ) × (v < n) × (r ≡ lastEnd q time table v)
@@ -34,6 +35,5 @@ abbrev pub EndsAfter : (target from time count : ℕ) (table : List ℕ) (k : �
 EndsAfter target from time count table k = HowMany (λ i. target < endOf from time table i) count k
 
 -- for each station the number of copies that finish after the target, and 0 beyond the last
-pub record LateCounts (n : ℕ) (q time : List ℕ) (target : ℕ) (table late : List ℕ) : Type 0 where
-  pub many : (v : ℕ) → v < n → EndsAfter target (sum v (at q)) (at time v) (at q v) table (at late v)
-  pub beyond : (v : ℕ) → n ≤ v → at late v ≡ 0
+abbrev pub LateCounts : (n : ℕ) (q time : List ℕ) (target : ℕ) (table late : List ℕ) → Type 0
+LateCounts n q time target table late = Filled (λ v x. EndsAfter target (sum v (at q)) (at time v) (at q v) table x) n late

@@ -6,8 +6,7 @@ use lib.ListN.{take, length}
 use Rattle.lists.specs.Front.{at}
 use Rattle.dataflow.specs.Counts.{sum}
 use Rattle.dataflow.specs.Runs.{initially, after, Run}
-use Rattle.dataflow.specs.Times.{TimeTable, entry}
-use Rattle.dataflow.proofs.LastLaws.{LastStart}
+use Rattle.dataflow.specs.Times.{TimeTable, entry, LastStart}
 use Rattle.firing.specs.Scan.{Fed}
 use Rattle.chain.specs.Chain.{netOf, delaysOf}
 

@@ -8,7 +8,6 @@ mod times;
 pub use fire::fire_list;
 pub use late::late_counts;
 pub use late::latest_end;
-pub use scan::ready;
 pub use thread::threads;
 pub use times::bases;
 pub use times::time_table;

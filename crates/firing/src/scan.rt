@@ -16,7 +16,7 @@ fn short(delay: u32, made: u32, produced: u32, taken: u32, consumed: u32) -> boo
 }
 
 // The lowest-numbered station that has firings left and enough tokens on every incoming queue, or n. At most n stations and m queues are looked at.
-pub fn ready(
+pub(crate) fn ready(
     n: usize,
     m: usize,
     source: &[u16; 64],

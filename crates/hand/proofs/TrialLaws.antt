@@ -16,7 +16,8 @@ use Rattle.refusals.proofs.FirstLaws.{here, here-now}
 use Rattle.dataflow.specs.Net.{Sound}
 use Rattle.dataflow.specs.Paths.{Period}
 use Rattle.dataflow.specs.Refusals.{InHandRange, HandFits}
-use Rattle.dataflow.specs.Retiming.{NotNegative, amount, byHand, newDelay, Legal, retimed}
+use Rattle.dataflow.specs.Whole.{up}
+use Rattle.dataflow.specs.Retiming.{NotNegative, byHand, newDelay, Legal, retimed}
 use Rattle.dataflow.specs.Sheet.{Below}
 use Rattle.dataflow.specs.Stuck.{Stuck}
 use Rattle.dataflow.proofs.NumberLaws.{number-of, number-is}
@@ -50,9 +51,9 @@ is-below : (z : ℤ) (a b : ℕ) → Difference z a b → (b ≤ a → ⊥) → 
 is-below (pos n) a b D h t = h (omega (arith, D .is))
 is-below (negsuc n) a b D h t = t
 
-amount-is : (z : ℤ) (a b x : ℕ) → Difference z a b → x + b ≡ a → amount z ≡ x
-amount-is (pos n) a b x D h = omega (arith, D .is)
-amount-is (negsuc n) a b x D h = absurd (omega (arith, D .is))
+up-is : (z : ℤ) (a b x : ℕ) → Difference z a b → x + b ≡ a → up z ≡ x
+up-is (pos n) a b x D h = omega (arith, D .is)
+up-is (negsuc n) a b x D h = absurd (omega (arith, D .is))
 
 -- 14 is not given where the period is within the target
 pub in-time : (f : Sheet) (l : List ℤ) {q : List ℕ} → CountsOf f q → {P : ℕ} → Period (netFor f q) (retimed (netFor f q) (delaysFor f q) (byHand l)) P → P ≤ f .target → Passed (slowRow f l)
@@ -88,7 +89,7 @@ module _ {c : Checked} (h : Ready (c .sheet) c) {l : List ℤ} (fit : HandFits (
 
       module _ {new : List ℕ} (N : Differences gain loss (f .m) new) where
         new-delays : (q : List ℕ) → retimed (netFor f q) (delaysFor f q) (byHand l) ≡ delaysOf (f .m) new
-        new-delays q = fun-ext (λ e. amount-is _ _ _ _ (new-is q e) (N .is (e .0) (e .1)))
+        new-delays q = fun-ext (λ e. up-is _ _ _ _ (new-is q e) (N .is (e .0) (e .1)))
 
         small : (e : ℕ) → at new e < 2 ^ 30
         small e = ⊎-elim within (λ b. omega (arith, N .rest e b)) (lt-or-ge e (f .m))

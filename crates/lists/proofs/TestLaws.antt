@@ -1,6 +1,6 @@
 -- The laws of what a test tells.
 use Prim.Native.Nat.{ℕ, _≤_, _<_}
-use mathlib.Core.Path.{_≡_}
+use mathlib.Core.Path.{_≡_, refl}
 use mathlib.Core.Bool.{Bool, true, false}
 use native.Mathlib.Omega.{arith}
 use lib.Dec.{ltb, leb}
@@ -15,6 +15,13 @@ tells-true t p = record { holds = λ e. p; fails = λ e q. differ t e }
 
 pub tells-false : {P : Type 0} {b : Bool} → b ≡ false → (P → ⊥) → Tells b P
 tells-false f n = record { holds = λ e. absurd (differ e f); fails = λ e. n }
+
+-- no second test tells the same
+pub tells-once : {P : Type 0} (a b : Bool) → Tells a P → Tells b P → a ≡ b
+tells-once true true s t = refl
+tells-once true false s t = absurd (t .fails refl (s .holds refl))
+tells-once false true s t = absurd (s .fails refl (t .holds refl))
+tells-once false false s t = refl
 
 -- comparisons tell what they compare
 pub tells-lt : (a b : ℕ) → Tells (ltb a b) (a < b)

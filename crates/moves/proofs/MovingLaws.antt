@@ -1,5 +1,5 @@
 -- One move, by the row of the table and by the definitions.
-use Prim.Native.Nat.{ℕ, _+_, _-_, _≤_, _<_}
+use Prim.Native.Nat.{ℕ, _+_, _-_, _≤_}
 use mathlib.Core.Path.{_≡_, refl, subst}
 use mathlib.Core.List.{List, [], _∷_}
 use native.Mathlib.Omega.{arith}
@@ -13,7 +13,6 @@ use Rattle.refusals.proofs.AnswerLaws.{passes, accepts}
 use Rattle.dataflow.specs.Whole.{up, down}
 use Rattle.dataflow.specs.Move.{movedCopy, movedShift}
 use Rattle.dataflow.specs.Refusals.{MoveFits}
-use Rattle.dataflow.proofs.SumLaws.{sum-above}
 use Rattle.dataflow.proofs.WholeLaws.{same-number, sum-is, up-neg, down-neg}
 use Rattle.checks.specs.declared.Checked.{Checked}
 use Rattle.checks.specs.Check.{netFor, Ready}
@@ -30,9 +29,6 @@ number-moved i r h =
     same-number _ _ (omega (arith, up-neg (pos (down r)), down-neg (pos (down r))))
 
 module _ {c : Checked} (h : Ready (c .sheet) c) where
-  pub count-few : (v : ℕ) → v < c .sheet .n → at (c .q) v ≤ 256
-  count-few v l = omega (arith, sum-above (c .sheet .n) (at (c .q)) v l, h .total, h .few)
-
   module _ (v i : ℕ) (r : ℤ) where
     -- 12 is given
     pub no-move : (MoveFits (netFor (c .sheet) (c .q)) v i r → ⊥) → First (moveRow (c .sheet) v i r ∷ []) 12 0

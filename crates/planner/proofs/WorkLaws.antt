@@ -12,10 +12,10 @@ use Rattle.dataflow.specs.Counts.{sum}
 use Rattle.dataflow.specs.Lists.{Back}
 use Rattle.dataflow.specs.Stuck.{RoundFires}
 use Rattle.dataflow.proofs.StuckLaws.{round-of-list}
-use Rattle.dataflow.proofs.SumLaws.{sum-above, sum-le, sum-times, sum-same}
+use Rattle.dataflow.proofs.SumLaws.{sum-le, sum-times, sum-same}
 use Rattle.sheet.specs.declared.Sheet.{Sheet}
 use Rattle.chain.specs.Chain.{CountedChain}
-use Rattle.chain.proofs.ChainLaws.{sound}
+use Rattle.chain.proofs.ChainLaws.{sound, count-few}
 use Rattle.checks.specs.declared.Checked.{Checked}
 use Rattle.checks.specs.Check.{netFor, delaysFor}
 use Rattle.checks.proofs.CheckLaws.{ready-counted, ready-given}
@@ -46,14 +46,11 @@ module _ {c : Checked} {r : Found} (h : Retimed c r) where
   pub fires-round : RoundFires (netFor f (c .q)) (delaysFor f (c .q))
   fires-round = round-of-list (netFor f (c .q)) W (delaysFor f (c .q)) _ (h .ready .round)
 
-  pub count-few : (v : ℕ) → at (c .q) v ≤ 256
-  count-few v = ⊎-elim (λ l. omega (arith, sum-above (f .n) (at (c .q)) v l, counted .adds, counted .few)) (λ l. omega (arith, counted .beyond v l)) (lt-or-ge v (f .n))
-
   pub small : Small (f .n) (c .q) (r .retiming)
   small = record {
     few = h .ready .chain .few;
     positive = counted .positive;
-    counts = λ v l. count-few v;
+    counts = λ v l. count-few counted v;
     retimings = λ v l. retiming-fits counted (h .retimes) v;
   }
 
@@ -72,7 +69,7 @@ module _ {c : Checked} {r : Found} (h : Retimed c r) where
       firings-few v = ⊎-elim (λ l. omega (arith, s .is v l)) (λ l. omega (arith, s .rest v l)) (lt-or-ge v (f .n))
 
       pub firing-small : (v : ℕ) → at firings v ≤ 65280
-      firing-small v = omega (arith, firings-few v, mul-le-mul back-small (count-few v))
+      firing-small v = omega (arith, firings-few v, mul-le-mul back-small (count-few counted v))
 
       pub starts-few : sum (f .n) (at firings) ≤ 65280
       starts-few =

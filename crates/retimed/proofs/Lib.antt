@@ -1,1 +1,2 @@
 pub mod BackLaws
+pub mod Unique

@@ -19,7 +19,7 @@ use Rattle.dataflow.proofs.SumLaws.{sum-above}
 use Rattle.dataflow.specs.Whole.{up, down}
 use Rattle.dataflow.proofs.WholeLaws.{Retimed, delay-is}
 use Rattle.chain.specs.Chain.{DelaysGiven, CountedChain, netOf, delaysOf}
-use Rattle.chain.proofs.ChainLaws.{sound}
+use Rattle.chain.proofs.ChainLaws.{sound, count-few}
 use Rattle.search.specs.Found.{Retimes}
 use Rattle.search.specs.declared.Found.{Found}
 
@@ -30,9 +30,6 @@ module _ {n m : ℕ} {source sink produced consumed delay time q : List ℕ} {to
 
   W : Sound G
   W = sound c time
-
-  count-few : (v : ℕ) → at q v ≤ 256
-  count-few v = ⊎-elim (λ l. omega (arith, sum-above n (at q) v l, c .adds, c .few)) (λ l. omega (arith, c .beyond v l)) (lt-or-ge v n)
 
   -- fewer rounds than copies
   pub rounds-few : r .rounds < total
@@ -49,7 +46,7 @@ module _ {n m : ℕ} {source sink produced consumed delay time q : List ℕ} {to
   pub retiming-fits : (v : ℕ) → at (r .retiming) v ≤ 65280
   retiming-fits v =
       let few : r .rounds ≤ 255 = omega (arith, rounds-few, c .few) in
-      omega (arith, search-bound G W (delaysOf m delay) target (h .rounds .searched) v, mul-le-mul few (count-few v))
+      omega (arith, search-bound G W (delaysOf m delay) target (h .rounds .searched) v, mul-le-mul few (count-few c v))
 
   pub new-delays : Retimed G (delaysOf m delay) (at (r .retiming)) (delaysOf m (r .delay))
   new-delays e =

@@ -30,7 +30,7 @@ use Rattle.chain.specs.Chain.{DelaysGiven, CountedChain, netOf, delaysOf}
 use Rattle.firing.specs.Late.{Readable, LatestEnd, LateCounts}
 use Rattle.firing.specs.Times.{Bases, Ordered, Tabled}
 use Rattle.firing.proofs.PeriodLaws.{period-is, late-is}
-use Rattle.chain.proofs.ChainLaws.{sound}
+use Rattle.chain.proofs.ChainLaws.{sound, count-few}
 use Rattle.firing.proofs.TableLaws.{here}
 use Rattle.search.specs.Cut.{keeps, lateFirst, Cuttable, Reordered}
 use Rattle.search.specs.Raise.{DelaysFit, NewDelays, Raised}
@@ -63,12 +63,9 @@ module _ (n m : ℕ) (source sink produced consumed delay time q : List ℕ) (to
     W : Sound G
     W = sound c time
 
-    count-few : (v : ℕ) → at q v ≤ 256
-    count-few v = ⊎-elim (λ l. omega (arith, sum-above n (at q) v l, c .adds, c .few)) (λ l. omega (arith, c .beyond v l)) (lt-or-ge v n)
-
     module _ {retiming current order : List ℕ} {rounds : ℕ} (u : Underway retiming current order rounds) (given : DelaysGiven m delay) (few : rounds ≤ 256) where
       pub retiming-few : (v : ℕ) → at retiming v ≤ 65536
-      retiming-few v = omega (arith, search-bound G W d target (u .searched) v, mul-le-mul few (count-few v))
+      retiming-few v = omega (arith, search-bound G W d target (u .searched) v, mul-le-mul few (count-few c v))
 
       delay-few : (e : ℕ) → at current e ≤ 4198399
       delay-few e =
@@ -133,13 +130,13 @@ module _ (n m : ℕ) (source sink produced consumed delay time q : List ℕ) (to
                 small = omega (arith, delay-few e);
                 takes-most = c .chain .takes-most e h;
                 makes-most = c .chain .makes-most e h;
-                taken-few = omega (arith, late-few (at sink e), count-few (at sink e));
-                made-few = omega (arith, late-few (at source e), count-few (at source e));
+                taken-few = omega (arith, late-few (at sink e), count-few c (at sink e));
+                made-few = omega (arith, late-few (at source e), count-few c (at source e));
               };
             }
 
             pub late-small : (v : ℕ) → at late v ≤ 65536
-            late-small v = omega (arith, late-few v, count-few v)
+            late-small v = omega (arith, late-few v, count-few c v)
 
             -- the delays after the raise are those that the copies that aren't late leave, so the late copies can be fired first
             module _ (E : Below m → ℕ) (x : (e : Below m) → E e + at produced (e .0) * at late (at source (e .0)) ≡ D e + at consumed (e .0) * at late (at sink (e .0))) where
@@ -194,13 +191,13 @@ module _ (n m : ℕ) (source sink produced consumed delay time q : List ℕ) (to
                 rise v =
                     ⊎-elim
                     (λ a. r .is v a)
-                    (λ a. omega (arith, r .rest v a, k .beyond v a, search-bound G W d target (u .searched) v, ap (λ (y : ℕ). rounds * y) (c .beyond v a)))
+                    (λ a. omega (arith, r .rest v a, k .rest v a, search-bound G W d target (u .searched) v, ap (λ (y : ℕ). rounds * y) (c .beyond v a)))
                     (lt-or-ge v n)
 
                 some : (v : ℕ) × (1 ≤ at late v)
                 some =
                     let y = l .reached in
-                    (y .0, many-last (k .many (y .0) (y .1)) (c .positive (y .0) (y .1)) (omega (arith, y .2)))
+                    (y .0, many-last (k .is (y .0) (y .1)) (c .positive (y .0) (y .1)) (omega (arith, y .2)))
 
     -- N rounds or more raised something
     pub gave-up : {retiming current order list : List ℕ} {rounds : ℕ} → Ordered n m source sink produced consumed delay time q total list → Underway retiming current order rounds → total ≤ rounds

@@ -1,2 +1,3 @@
 pub mod SignLaws
 pub mod PartLaws
+pub mod Unique

@@ -10,14 +10,12 @@ use borrow.Author.Tests.{ltb-true}
 use mir.Syntax.{w32}
 use mir.Val.{Fits, SFits, toZ, ofZ}
 use mir.Facts.{toZ-ofZ, toZ-pos}
+use Rattle.lists.proofs.TestLaws.{differ}
 use Rattle.dataflow.specs.Whole.{up, down}
 
 -- what a cast asks of bits that are a number k
 plain : (n k : ℕ) → toZ w32 n ≡ pos k → k < 2 ^ 31 → T (nonNeg (toZ w32 n)) × Fits w32 (natAbs (toZ w32 n))
 plain n k e h = rw e (tt, record { fits = omega arith })
-
-true-ne-false : true ≡ false → ⊥
-true-ne-false e = let z : _≡_ {A = ℕ} 0 1 = cc in omega arith
 
 -- x is below 0: its bits turned over are those of down x - 1
 pub record Below (x : ℤ) : Type 0 where
@@ -42,7 +40,7 @@ pub record Above (x : ℤ) : Type 0 where
 
 pub above : (x : ℤ) → SFits w32 x → ltZ (toZ w32 (ofZ w32 x)) (pos 0) ≡ false → Above x
 above (pos k) f e = record { high = f .sfits; none = refl; same = toZ-pos w32 (f .sfits) }
-above (negsuc k) f e = let z : true ≡ false = rw toZ-ofZ at e in absurd (true-ne-false z)
+above (negsuc k) f e = let z : true ≡ false = rw toZ-ofZ at e in absurd (differ refl z)
 
 pub below-casts : {x : ℤ} → Below x → T (nonNeg (toZ w32 (4294967295 - ofZ w32 x))) × Fits w32 (natAbs (toZ w32 (4294967295 - ofZ w32 x)))
 below-casts {x} b = plain (4294967295 - ofZ w32 x) (down x - 1) (b .turned) (omega (arith, b .some, b .high))

@@ -16,7 +16,8 @@ use Rattle.dataflow.specs.Counts.{sum}
 use Rattle.dataflow.specs.Lists.{Back, complete, StartList, RoundList}
 use Rattle.dataflow.specs.Paths.{Period}
 use Rattle.dataflow.specs.Promise.{Plan, PlanHolds}
-use Rattle.dataflow.specs.Retiming.{amount, whole, newDelay}
+use Rattle.dataflow.specs.Whole.{up}
+use Rattle.dataflow.specs.Retiming.{whole, newDelay}
 use Rattle.dataflow.specs.Room.{roomOf}
 use Rattle.dataflow.specs.Search.{Searched, nothing, SearchEnds}
 use Rattle.dataflow.specs.Sheet as columns
@@ -83,7 +84,7 @@ module _ (s : columns.Sheet) (p : Printed) (limits : WithinLimits s) (c : Counte
   ends = record {
     searched = h .searched;
     none-late =
-        rw (fun-ext (λ (e : Below (s .queues)). ap amount (h .delays e)))
+        rw (fun-ext (λ (e : Below (s .queues)). ap up (h .delays e)))
         (none-late-within (netWith s (p .count)) (newDelays s p) (s .target) (period-within (netWith s (p .count)) (newDelays s p) (s .target) (p .period) (h .period) .0 (h .in-time)));
   }
 

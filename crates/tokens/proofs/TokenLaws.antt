@@ -10,10 +10,10 @@ use Rattle.refusals.specs.Table.{token}
 use Rattle.refusals.specs.Answer.{Answers}
 use Rattle.refusals.proofs.FirstLaws.{here-now}
 use Rattle.refusals.proofs.AnswerLaws.{refuses, accepts, passes}
-use Rattle.dataflow.specs.Origin.{placeTaken}
+use Rattle.dataflow.specs.Origin.{placeTaken, tokenIf, tokenAt}
 use Rattle.dataflow.specs.Refusals.{TokenFits}
 use Rattle.dataflow.specs.Runs.{Token, initial, made}
-use Rattle.dataflow.proofs.OriginLaws.{tokenIf, tokenAt, origin-is}
+use Rattle.dataflow.proofs.OriginLaws.{origin-is}
 use Rattle.dataflow.proofs.TakenLaws.{origin-promise}
 use Rattle.sheet.specs.declared.Sheet.{Sheet}
 use Rattle.checks.specs.Check.{netFor, delaysFor}

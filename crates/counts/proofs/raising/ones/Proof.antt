@@ -3,10 +3,9 @@ use mathlib.Core.Path.{refl}
 use native.Mathlib.Omega.{arith}
 use native.Mathlib.Nat.{le-antisymm}
 use borrow.Author.Needs.{needs}
-use borrow.Author.Count.{below-none}
 use Rattle.counts.specs.Raising.{Ones}
 use Rattle.counts.proofs.RateLaws.{ones-more}
-use Rattle.lists.proofs.StoreLaws.{at-zeros}
+use Rattle.lists.proofs.FilledLaws.{filled-none}
 use Rattle.counts.proofs.raising.ones.Statement.{statement}
 use Rattle.counts.proofs.raising.ones.Tie as tie
 
@@ -17,7 +16,7 @@ abbrev μ-loop : tie.MeasureT-loop
 μ-loop n q₀ v₀ q v = n - v
 
 loop-holds : tie.Need-loop-holds Inv-loop μ-loop
-loop-holds c = (record { long = refl; one = below-none _; beyond = λ v h. at-zeros 32 v }, search needs)
+loop-holds c = (record { long = refl; ones = filled-none 32 }, search needs)
 
 mul-q : tie.Need-mul-q Inv-loop μ-loop
 mul-q c = search needs

@@ -4,7 +4,8 @@ use native.Mathlib.Omega.{arith}
 use lib.ListN.{length, length-set}
 use borrow.Author.Needs.{needs}
 use Rattle.firing.specs.Late.{LateCounts}
-use Rattle.firing.proofs.EndLaws.{place-of, no-counts, count-more}
+use Rattle.firing.proofs.EndLaws.{place-of}
+use Rattle.lists.proofs.FilledLaws.{filled-none, filled-more}
 use Rattle.firing.proofs.late.late_counts.Statement.{statement}
 use Rattle.firing.proofs.late.late_counts.Tie as tie
 
@@ -15,7 +16,7 @@ abbrev μ-loop : tie.MeasureT-loop
 μ-loop n q base time target table late₀ v₀ late v = n - v
 
 loop-holds : tie.Need-loop-holds Inv-loop μ-loop
-loop-holds c = (search needs, (refl, no-counts _ _ _ _))
+loop-holds c = (search needs, (refl, filled-none 32))
 
 mul-late-of : tie.Need-mul-late-of Inv-loop μ-loop
 mul-late-of c = search needs
@@ -66,7 +67,7 @@ loop-again c =
       search needs,
       (
         simp length-set (l .loop .inv .1 .0),
-        count-more _ _ _ _ (l .loop .v) (c .late-of .result) (search needs) (rw (w .wide32 .ensures .0, e) at (c .late-of .ensures)) (l .loop .inv .1 .1),
+        filled-more (c .late-of .result) (search needs) (rw (w .wide32 .ensures .0, e) at (c .late-of .ensures)) (l .loop .inv .1 .1),
       ),
     )
 

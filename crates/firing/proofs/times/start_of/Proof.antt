@@ -3,7 +3,8 @@ use mathlib.Core.Path.{ap}
 use native.Mathlib.Omega.{arith}
 use borrow.Author.Needs.{needs}
 use Rattle.lists.specs.Front.{at}
-use Rattle.firing.proofs.StartLaws.{StartBelow, start-none, start-more, start-all, count-few, held-small}
+use Rattle.chain.proofs.ChainLaws.{count-few}
+use Rattle.firing.proofs.StartLaws.{StartBelow, start-none, start-more, start-all, held-small}
 use Rattle.firing.proofs.times.start_of.Statement.{statement}
 use Rattle.firing.proofs.times.start_of.Tie as tie
 
@@ -18,7 +19,7 @@ abbrev begin : tie.In-loop Inv-loop μ-loop → tie.Start Inv-loop μ-loop
 begin c = c .before .before .before .before
 
 fired-few : (c : tie.In-loop Inv-loop μ-loop) → at (begin c .args .fired .now) (begin c .args .v) ≤ 256
-fired-few c = let z = begin c in omega (arith, count-few (z .pre .0) (z .pre .1 .1) (z .args .v) (z .pre .1 .1 .here), z .pre .1 .1 .few (z .args .v) (z .pre .1 .1 .here))
+fired-few c = let z = begin c in omega (arith, count-few (z .pre .0) (z .args .v), z .pre .1 .1 .few (z .args .v) (z .pre .1 .1 .here))
 
 leaves : (c : tie.In-loop Inv-loop μ-loop) → at (begin c .args .source .now) (c .before .loop .e) < begin c .args .n
 leaves c = begin c .pre .0 .chain .leaves (c .before .loop .e) (c .loop-test .taken)

@@ -3,7 +3,9 @@ use borrow.Author.Tests.{not-true, not-false}
 use mir.Facts.{toZ-ofZ}
 use Rattle.refusals.proofs.AnswerLaws.{refuses}
 use Rattle.moves.specs.Moving.{movedKind}
-use Rattle.moves.proofs.MovingLaws.{count-few, no-move, goes}
+use Rattle.chain.proofs.ChainLaws.{count-few}
+use Rattle.checks.proofs.CheckLaws.{ready-counted}
+use Rattle.moves.proofs.MovingLaws.{no-move, goes}
 use borrow.Author.Needs.{needs}
 use Rattle.moves.proofs.moving.fitting.Statement.{statement}
 use Rattle.moves.proofs.moving.fitting.Tie as tie
@@ -53,7 +55,7 @@ moved-requires c κs =
     let i = c .before in
     let k = i .before .before .before in
     let a = k .before .before in
-    (omega (arith, i .before .before .if2 .left), (omega (arith, i .before .if3 .left), (count-few (a .pre) _ (omega (arith, k .before .if1 .left)), i .in-hand-range .ensures .holds (not-false _ (c .if4 .left)))))
+    (omega (arith, i .before .before .if2 .left), (omega (arith, i .before .if3 .left), (count-few (ready-counted (a .pre)) _, i .in-hand-range .ensures .holds (not-false _ (c .if4 .left)))))
 
 returns-5 : tie.Need-returns-5
 returns-5 c =

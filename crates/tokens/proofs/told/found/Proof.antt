@@ -2,8 +2,7 @@ use Prim.Native.Nat.{ℕ}
 use mathlib.Core.Path.{ap, _∙_}
 use native.Mathlib.Omega.{arith}
 use borrow.Author.Needs.{needs}
-use Rattle.dataflow.specs.Origin.{placeTaken}
-use Rattle.dataflow.proofs.OriginLaws.{tokenAt}
+use Rattle.dataflow.specs.Origin.{placeTaken, tokenAt}
 use Rattle.tokens.specs.Told.{toldAs}
 use Rattle.tokens.proofs.TokenLaws.{no-token, tells}
 use Rattle.tokens.proofs.told.found.Statement.{statement}
