@@ -6,8 +6,9 @@ use lib.ListN.{length}
 use native.Mathlib.Omega.{arith}
 use native.Mathlib.Nat.{not-suc-le-zero, le-of-suc-le-suc}
 use Rattle.lists.proofs.Order.{order}
-use Rattle.refusals.specs.Table.{Refusal, short, version, counts, layout, field, apart, counts-fail, stuck, no-retiming, list-stuck, room, hand, negative, slow, token, number}
+use Rattle.refusals.specs.Table.{Refusal, number}
 use Rattle.refusals.specs.First.{Row, row, Passed, Lowest, nth, First, given, free}
+use Rattle.refusals.proofs.TableLaws.{number-within}
 
 lowest-unique : {r : Row} {p p′ : ℕ} → Lowest r p → Lowest r p′ → p ≡ p′
 lowest-unique {r} {p} {p′} l l′ =
@@ -48,26 +49,9 @@ pub extend : (rows more : List Row) {number place : ℕ} → First rows number p
 extend rows more (given i b f l) n = given-extend rows more i b f l
 extend rows more (free f) n = absurd (n refl)
 
-number-positive : (x : Refusal) → 0 < number x
-number-positive short = omega arith
-number-positive version = omega arith
-number-positive counts = omega arith
-number-positive layout = omega arith
-number-positive field = omega arith
-number-positive apart = omega arith
-number-positive counts-fail = omega arith
-number-positive stuck = omega arith
-number-positive no-retiming = omega arith
-number-positive list-stuck = omega arith
-number-positive room = omega arith
-number-positive hand = omega arith
-number-positive negative = omega arith
-number-positive slow = omega arith
-number-positive token = omega arith
-
 -- none was given, so each row applies nowhere
 pub all-passed : {rows : List Row} {k p : ℕ} → First rows k p → k ≡ 0 → (j : ℕ) → j < length rows → Passed (nth rows j)
-all-passed {rows} (given i b f l) e = absurd (omega (arith, number-positive (nth rows i .refusal)))
+all-passed {rows} (given i b f l) e = absurd (omega (arith, number-within (nth rows i .refusal)))
 all-passed (free f) e = f
 
 -- where every row applies nowhere, the first is among those that follow

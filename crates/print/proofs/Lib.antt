@@ -1,0 +1,2 @@
+pub mod SpelledLaws
+pub mod Unique

@@ -1,0 +1,46 @@
+-- The laws of the table's numbers.
+use Prim.Native.Nat.{ℕ, _-_, _≤_, _<_}
+use mathlib.Core.Path.{_≡_, refl, sym, ap, _∙_}
+use mathlib.Core.List.{[], _∷_}
+use native.Mathlib.Decide.{ℕ-discrete}
+use native.Mathlib.Omega.{arith}
+use lib.ListN.{getD}
+use Rattle.refusals.specs.Table.{Refusal, short, version, counts, layout, field, apart, counts-fail, stuck, no-retiming, list-stuck, room, hand, negative, slow, token, number}
+
+-- the refusal with a number from 1 to 15
+numbered : ℕ → Refusal
+numbered x = getD (short ∷ version ∷ counts ∷ layout ∷ field ∷ apart ∷ counts-fail ∷ stuck ∷ no-retiming ∷ list-stuck ∷ room ∷ hand ∷ negative ∷ slow ∷ token ∷ []) (x - 1) short
+
+-- each number is one of these and leads back to its refusal
+in-table : (k : Refusal) → ((0 < number k) × (number k ≤ 15)) × (numbered (number k) ≡ k)
+unfolding numbered
+in-table short = ((omega arith, omega arith), refl)
+in-table version = ((omega arith, omega arith), refl)
+in-table counts = ((omega arith, omega arith), refl)
+in-table layout = ((omega arith, omega arith), refl)
+in-table field = ((omega arith, omega arith), refl)
+in-table apart = ((omega arith, omega arith), refl)
+in-table counts-fail = ((omega arith, omega arith), refl)
+in-table stuck = ((omega arith, omega arith), refl)
+in-table no-retiming = ((omega arith, omega arith), refl)
+in-table list-stuck = ((omega arith, omega arith), refl)
+in-table room = ((omega arith, omega arith), refl)
+in-table hand = ((omega arith, omega arith), refl)
+in-table negative = ((omega arith, omega arith), refl)
+in-table slow = ((omega arith, omega arith), refl)
+in-table token = ((omega arith, omega arith), refl)
+
+pub number-within : (k : Refusal) → (0 < number k) × (number k ≤ 15)
+number-within k = in-table k .0
+
+-- no two refusals have the same number
+pub number-once : (k k′ : Refusal) → number k ≡ number k′ → k ≡ k′
+number-once k k′ e = sym (in-table k .1) ∙ ap numbered e ∙ in-table k′ .1
+
+-- whether a refusal has the number
+pub number-dec : (n : ℕ) → Dec ((k : Refusal) × (number k ≡ n))
+number-dec n =
+    elim (ℕ-discrete (number (numbered n)) n) [
+      | yes e ↦ yes (numbered n, e)
+      | no d ↦ no (λ has. d (rw (← has .1) (ap number (in-table (has .0) .1))))
+    ]
