@@ -54,8 +54,6 @@ struct plan {
     unsigned delay[MOST_QUEUES];
 };
 
-/* Reading. */
-
 static unsigned u16_at(const unsigned char *s)
 {
     return s[0] | s[1] << 8;
@@ -115,8 +113,6 @@ static unsigned bad_queue(const struct sheet *sheet)
     return e;
 }
 
-/* Counts. */
-
 /* A station that isn't marked at a queue whose other end is, or n. */
 static unsigned neighbour(const struct sheet *sheet, const bool *marked)
 {
@@ -171,8 +167,6 @@ static bool find_counts(struct sheet *sheet)
             return true;
     return false;
 }
-
-/* Firing. */
 
 /* Threads the queues into each station, and finds where its copies begin in the time table. */
 static void thread_queues(struct sheet *sheet)
@@ -241,8 +235,6 @@ static bool fire_round(const struct sheet *sheet, const unsigned *delay, uint16_
     return fire_list(sheet, delay, count, sheet->total, list);
 }
 
-/* The time table. */
-
 /* The latest finish of the copies that make the last tokens of the next firing of v. */
 static unsigned start_of(const struct sheet *sheet, const unsigned *delay, const uint32_t *times,
                          unsigned v, unsigned fired)
@@ -286,8 +278,6 @@ static unsigned latest_end(const struct sheet *sheet, const uint32_t *times)
     }
     return latest;
 }
-
-/* The search. */
 
 /* The number of late copies of each station. */
 static void count_late(const struct sheet *sheet, const uint32_t *times, unsigned *late)
@@ -354,8 +344,6 @@ static bool search(const struct sheet *sheet, const uint16_t *list, struct plan 
     return false;
 }
 
-/* Planning. */
-
 /* Back, and how often each station fires in the start list. */
 static void find_starts(const struct sheet *sheet, struct plan *plan)
 {
@@ -419,8 +407,6 @@ static unsigned make_plan(const unsigned char *s, size_t size, const struct lent
     return 0;
 }
 
-/* Printing. */
-
 static bool gathering;
 static char gathered[65536];
 static size_t held;
@@ -475,10 +461,11 @@ static void print_number(const char *word, unsigned number)
 static void print_refusal(unsigned number, unsigned place)
 {
     static const char *const word[] = {
-        "", " short", " version", " counts", " layout", " field", " apart", " counts-fail",
-        " stuck", " no-retiming", " list-stuck", " room"
+        "", "short", "version", "counts", "layout", "field", "apart", "counts-fail",
+        "stuck", "no-retiming", "list-stuck", "room"
     };
     print_number("refused ", number);
+    print_text(" ");
     print_text(word[number]);
     print_number(" place ", place);
     print_text("\n");
@@ -536,8 +523,6 @@ static void print_plan(const struct sheet *sheet, const struct plan *plan, const
     print_list("round", lent->round, sheet->total);
     print_times(lent->times, sheet->total);
 }
-
-/* Questions. */
 
 static void answer_sheet(const unsigned char *s, size_t size, const struct lent *lent)
 {

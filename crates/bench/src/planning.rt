@@ -1,6 +1,4 @@
-// Kinds 1 and 2: a sheet is planned.
-
-// Kind 1: with buffers that no plan outgrows.
+// Kind 1: a sheet is planned with buffers that no plan outgrows.
 pub(crate) fn answer(body: &[u8]) {
     let mut start = [0u16; 65536];
     let mut round = [0u16; 256];

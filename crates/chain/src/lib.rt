@@ -1,4 +1,4 @@
-// The columns that the planner's routines are lent.
+// The columns that the planner's routines are lent, the larger of two numbers, and a quotient that rounds up.
 mod columns;
 mod dividing;
 mod maximum;

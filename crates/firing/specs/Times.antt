@@ -1,4 +1,4 @@
--- The time table of one round, its period, and the late copies of each station.
+-- The time table of one round.
 use Prim.Native.Nat.{ℕ, _+_, _-_, _/_, _≤_, _<_, _^_}
 use mathlib.Core.Path.{_≡_}
 use mathlib.Core.List.{List}

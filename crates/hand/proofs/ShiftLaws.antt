@@ -1,4 +1,4 @@
--- The sums of new delays are small, and their difference is the new delay.
+-- The sums that new delays are made of are small.
 use Prim.Native.Nat.{ℕ, _*_, _≤_, _<_}
 use mathlib.Core.List.{List}
 use native.Mathlib.Nat.{mul-le-mul}

@@ -20,7 +20,7 @@ use Rattle.sheet.specs.declared.Sheet.{Sheet}
 use Rattle.checks.specs.Check.{columnsOf, netFor, delaysFor}
 use Rattle.checks.proofs.CheckLaws.{counts-of-once, rows-sound}
 use Rattle.planner.specs.declared.Planning.{Planning}
-use Rattle.planner.specs.Plan.{Only, Planned, refusedBy, Plans}
+use Rattle.planner.specs.Plan.{Only, Planned, Left, planKind, Plans}
 use Rattle.planner.proofs.FitLaws.{read-free}
 
 -- the lists of an answer have their lengths
@@ -153,11 +153,5 @@ plan-unique s start round times r r′ z z′ start′ round′ times′ start�
           times = same-times _ start round times r r′ z z′ start′ round′ times′ start″ round″ times″ p p′ W;
         }
     go (no n) =
-        let h = a .refused n in
-        let h′ = a′ .refused (λ e. n (same .0 ∙ e)) in
-        record {
-          result = h .says ∙ (λ i. refusedBy (same .0 i) (same .1 i)) ∙ sym (h′ .says);
-          start = h .start-kept ∙ sym (h′ .start-kept);
-          round = h .round-kept ∙ sym (h′ .round-kept);
-          times = h .times-kept ∙ sym (h′ .times-kept);
-        }
+        let z = a .refused n ∙ (λ i. planKind start round times .refusal (same .0 i) (same .1 i)) ∙ sym (a′ .refused (λ e. n (same .0 ∙ e))) in
+        record { result = ap (λ (x : Left). x .answer) z; start = ap (λ (x : Left). x .start) z; round = ap (λ (x : Left). x .round) z; times = ap (λ (x : Left). x .times) z }

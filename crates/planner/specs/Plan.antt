@@ -1,13 +1,14 @@
 -- What planning answers: refusals 1 to 11, or the plan.
 use Prim.Native.Nat.{ℕ, _-_, _*_, _≤_, _<_}
-use mathlib.Core.Path.{_≡_}
+use mathlib.Core.Path.{_≡_, refl}
 use mathlib.Core.List.{List, [], _∷_, _++_}
 use mathlib.Core.Logic.{_⊎_}
 use lib.ListN.{length, take, drop, replicate}
 use lib.IntN.{ℤ}
 use Rattle.lists.specs.Front.{at}
 use Rattle.refusals.specs.Table.{Refusal, no-retiming, list-stuck, room}
-use Rattle.refusals.specs.First.{Row, row, First}
+use Rattle.refusals.specs.First.{Row, row}
+use Rattle.refusals.specs.Answer.{Kind, Answers}
 use Rattle.dataflow.specs.Counts.{sum}
 use Rattle.dataflow.specs.Lists.{Back}
 use Rattle.dataflow.specs.Promise.{Promise}
@@ -96,19 +97,28 @@ refusedBy number place = record {
   room = replicate 64 0;
 }
 
+-- an answer, and what the lent buffers hold with it
+pub record Left : Type 0 where
+  pub answer : Planning
+  pub start : List ℕ
+  pub round : List ℕ
+  pub times : List ℕ
+
 -- a refusal says its number and place, and every buffer holds what it held
-pub record Refused (start round times start′ round′ times′ : List ℕ) (r : Planning) : Type 0 where
-  pub says : r ≡ refusedBy (r .number) (r .place)
-  pub start-kept : start′ ≡ start
-  pub round-kept : round′ ≡ round
-  pub times-kept : times′ ≡ times
+abbrev pub planKind : (start round times : List ℕ) → Kind Left
+planKind start round times = record {
+  number = λ x. x .answer .number;
+  place = λ x. x .answer .place;
+  refusal = λ number place. record { answer = refusedBy number place; start = start; round = round; times = times };
+  tells-number = λ number place. refl;
+  tells-place = λ number place. refl;
+}
 
 -- the first of the rows that applies and nothing else, or a plan of f
-pub record Answers (rows : List Row) (f : Sheet) (start round times : List ℕ) (r : Planning) (start′ round′ times′ : List ℕ) : Type 0 where
-  pub verdict : First rows (r .number) (r .place)
-  pub accepted : r .number ≡ 0 → Planned f start round times start′ round′ times′ r
-  pub refused : (r .number ≡ 0 → ⊥) → Refused start round times start′ round′ times′ r
+abbrev pub AnswersPlan : (rows : List Row) (f : Sheet) (start round times : List ℕ) → Planning → (start′ round′ times′ : List ℕ) → Type 0
+AnswersPlan rows f start round times r start′ round′ times′ =
+    Answers (planKind start round times) rows (λ x. Planned f start round times (x .start) (x .round) (x .times) (x .answer)) (record { answer = r; start = start′; round = round′; times = times′ })
 
 -- planning a sheet's bytes with three lent buffers, and what the buffers hold then
 abbrev pub Plans : (s start round times : List ℕ) → Planning → (start′ round′ times′ : List ℕ) → Type 0
-Plans s start round times = Answers (planRows s (length start) (length round) (length times)) (sheetOf s) start round times
+Plans s start round times = AnswersPlan (planRows s (length start) (length round) (length times)) (sheetOf s) start round times

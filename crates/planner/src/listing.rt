@@ -41,7 +41,7 @@ fn completes(
     )
 }
 
-// Writes a list that can be completed over the first entries. One pass over it.
+// Writes a list that can be completed over the first entries, by firing it once more.
 pub(crate) fn write_list(
     n: usize,
     m: usize,

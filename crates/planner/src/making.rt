@@ -5,7 +5,7 @@ ghost use mathlib.Core.List.{[], _∷_};
 ghost use lib.ListN.{length};
 ghost use Rattle.checks.specs.Check.{Ready};
 ghost use Rattle.planner.specs.Making.{Retimed, Begun, Listed, HasRoom, Wrote, Shown};
-ghost use Rattle.planner.specs.Plan.{listsRow, roomRow, retimedRows, refusedBy, Answers, Plans};
+ghost use Rattle.planner.specs.Plan.{listsRow, roomRow, retimedRows, refusedBy, AnswersPlan, Plans};
 ghost use Rattle.planner.specs.Lists.{BothComplete};
 use crate::Planning;
 use crate::listing::both_complete;
@@ -36,7 +36,7 @@ fn refused(number: u32, place: u32) -> Planning
     }
 }
 
-// Writes both lists and the time table. One pass over each.
+// Writes both lists, each fired once more, and the time table.
 fn write(
     checked: Checked,
     found: Found,
@@ -136,7 +136,7 @@ fn lent(
     times: &mut [u32],
 ) -> Planning
     requires { ⌜ Listed checked found back firings starts ⌝ }
-    ensures { λ r. ⌜ Answers (roomRow (checked .sheet) (length (now (start .entry))) (length (now (round .entry))) (length (now (times .entry))) ∷ []) (checked .sheet) (now (start .entry)) (now (round .entry)) (now (times .entry)) r (now (start .exit)) (now (round .exit)) (now (times .exit)) ⌝ }
+    ensures { λ r. ⌜ AnswersPlan (roomRow (checked .sheet) (length (now (start .entry))) (length (now (round .entry))) (length (now (times .entry))) ∷ []) (checked .sheet) (now (start .entry)) (now (round .entry)) (now (times .entry)) r (now (start .exit)) (now (round .exit)) (now (times .exit)) ⌝ }
 {
     if start.len() < starts {
         return refused(11, 0);
@@ -192,7 +192,7 @@ fn listed(
     times: &mut [u32],
 ) -> Planning
     requires { ⌜ Retimed checked found ⌝ }
-    ensures { λ r. ⌜ Answers (listsRow (checked .sheet) ∷ roomRow (checked .sheet) (length (now (start .entry))) (length (now (round .entry))) (length (now (times .entry))) ∷ []) (checked .sheet) (now (start .entry)) (now (round .entry)) (now (times .entry)) r (now (start .exit)) (now (round .exit)) (now (times .exit)) ⌝ }
+    ensures { λ r. ⌜ AnswersPlan (listsRow (checked .sheet) ∷ roomRow (checked .sheet) (length (now (start .entry))) (length (now (round .entry))) (length (now (times .entry))) ∷ []) (checked .sheet) (now (start .entry)) (now (round .entry)) (now (times .entry)) r (now (start .exit)) (now (round .exit)) (now (times .exit)) ⌝ }
 {
     let n = checked.sheet.n;
     let q = checked.q;
@@ -209,7 +209,7 @@ fn listed(
 // 9, then 10 and 11.
 fn searched(checked: Checked, start: &mut [u16], round: &mut [u16], times: &mut [u32]) -> Planning
     requires { ⌜ Ready (checked .sheet) checked ⌝ }
-    ensures { λ r. ⌜ Answers (retimedRows (checked .sheet) (length (now (start .entry))) (length (now (round .entry))) (length (now (times .entry)))) (checked .sheet) (now (start .entry)) (now (round .entry)) (now (times .entry)) r (now (start .exit)) (now (round .exit)) (now (times .exit)) ⌝ }
+    ensures { λ r. ⌜ AnswersPlan (retimedRows (checked .sheet) (length (now (start .entry))) (length (now (round .entry))) (length (now (times .entry)))) (checked .sheet) (now (start .entry)) (now (round .entry)) (now (times .entry)) r (now (start .exit)) (now (round .exit)) (now (times .exit)) ⌝ }
 {
     let source = checked.sheet.source;
     let sink = checked.sheet.sink;

@@ -1,6 +1,6 @@
 -- The laws of reading.
 use Prim.Native.Nat.{ℕ, _+_, _-_, _≤_, _<_}
-use mathlib.Core.Path.{_≡_, refl, sym, _∙_}
+use mathlib.Core.Path.{_≡_, sym, _∙_}
 use mathlib.Core.List.{List, [], _∷_}
 use mathlib.Core.Logic.{⊎-elim}
 use native.Mathlib.Omega.{arith}
@@ -17,7 +17,7 @@ use Rattle.sheet.specs.declared.Sheet.{Sheet}
 use Rattle.sheet.specs.declared.Reading.{Reading}
 use Rattle.sheet.specs.Limits.{CountsFit, QueueFits, SheetQueueFits}
 use Rattle.sheet.specs.Format.{version, padded, sheetOf}
-use Rattle.sheet.specs.Read.{HeaderFits, Laid, Passes, headerRows, fieldRow, readRows, blank, Reads}
+use Rattle.sheet.specs.Read.{HeaderFits, Laid, Passes, headerRows, fieldRow, readRows, Reads}
 
 header-stable : (s : List ℕ) → ((HeaderFits s → ⊥) → ⊥) → HeaderFits s
 header-stable s h =
@@ -75,10 +75,6 @@ module _ (s : List ℕ) (sheet : Sheet) (is : sheet ≡ sheetOf s) where
     accepted l =
         append (headerRows s) (all-passed header fits)
         (rw (← is) (passed {r = fieldRow sheet} (λ e a. a .1 (lowest .below e (omega (arith, a .0)))) none))
-
--- a refusal is read
-pub reads-refused : (s : List ℕ) {r : Reading} (k p : ℕ) → First (readRows s) k p → (k ≡ 0 → ⊥) → r ≡ record { number = k; place = p; sheet = blank } → Reads s r
-reads-refused s k p f n e = rw e (record { verdict = f; accepted = λ z. absurd (n z); refused = λ z. refl })
 
 -- an accepted sheet is within the limits of n and m
 pub accepted-counts : (s : List ℕ) (r : Reading) → Reads s r → r .number ≡ 0 → CountsFit (r .sheet .n) (r .sheet .m)

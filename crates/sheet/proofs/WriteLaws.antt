@@ -12,14 +12,13 @@ use Rattle.lists.proofs.PutLaws.{wrote, wrote-more, put-front}
 use Rattle.refusals.specs.Table.{counts}
 use Rattle.refusals.specs.Table.{version as wrong-version}
 use Rattle.refusals.specs.Table.{room as too-short}
-use Rattle.refusals.specs.First.{Row, row, Passed, First}
+use Rattle.refusals.specs.First.{row, Passed, First}
 use Rattle.refusals.proofs.FirstLaws.{here, here-now, passed, none, all-passed}
 use Rattle.sheet.specs.declared.Sheet.{Sheet}
-use Rattle.sheet.specs.declared.Written.{Written}
 use Rattle.sheet.specs.Limits.{CountsFit, SheetQueueFits}
 use Rattle.sheet.specs.Format.{queueSize, sheetEnd, headerBytes, stationBytes, queueBytes, bytesOf}
 use Rattle.sheet.specs.Read.{fieldRow}
-use Rattle.sheet.specs.Write.{SheetHanded, writeRows, Judges}
+use Rattle.sheet.specs.Write.{SheetHanded, writeRows}
 use Rattle.sheet.proofs.FormatLaws.{part-same, length-header, length-stations, length-queues, length-bytes}
 
 module _ (f : Sheet) (room : ℕ) where
@@ -50,9 +49,6 @@ module _ (f : Sheet) (room : ℕ) where
 -- no queue is bad
 pub clear : (f : Sheet) {bad : ℕ} → LowestFailing (SheetQueueFits f) (f .m) bad → f .m ≤ bad → Passed (fieldRow f)
 clear f lowest good e a = a .1 (lowest .below e (omega (arith, a .0)))
-
-pub judges-refused : {rows : List Row} {needed : ℕ} {r : Written} (k p : ℕ) → First rows k p → (k ≡ 0 → ⊥) → r ≡ record { number = k; place = p; length = 0 } → Judges rows needed r
-judges-refused k p f n e = rw e (record { verdict = f; accepted = λ z. absurd (n z); refused = λ z. refl })
 
 -- what holds of the fields where nothing is refused
 pub record Writable (f : Sheet) (room : ℕ) : Type 0 where

@@ -1,11 +1,12 @@
 -- What reading answers: refusals 1 to 5, or the sheet.
 use Prim.Native.Nat.{ℕ, _<_}
-use mathlib.Core.Path.{_≡_}
+use mathlib.Core.Path.{_≡_, refl}
 use mathlib.Core.List.{List, [], _∷_, _++_}
 use lib.ListN.{length, replicate}
 use Rattle.refusals.specs.Table.{short, counts, layout, field}
 use Rattle.refusals.specs.Table.{version as wrong-version}
-use Rattle.refusals.specs.First.{Row, row, First}
+use Rattle.refusals.specs.First.{Row, row}
+use Rattle.refusals.specs.Answer.{Kind, Answers}
 use Rattle.sheet.specs.declared.Sheet.{Sheet}
 use Rattle.sheet.specs.declared.Reading.{Reading}
 use Rattle.sheet.specs.Limits.{CountsFit, SheetQueueFits}
@@ -58,8 +59,16 @@ blank = record {
   delay = replicate 64 0;
 }
 
+-- a refusal's number and place, and a blank sheet
+abbrev pub readKind : Kind Reading
+readKind = record {
+  number = λ r. r .number;
+  place = λ r. r .place;
+  refusal = λ number place. record { number = number; place = place; sheet = blank };
+  tells-number = λ number place. refl;
+  tells-place = λ number place. refl;
+}
+
 -- the first refusal that applies and nothing else, or the sheet
-pub record Reads (s : List ℕ) (r : Reading) : Type 0 where
-  pub verdict : First (readRows s) (r .number) (r .place)
-  pub accepted : r .number ≡ 0 → r .sheet ≡ sheetOf s
-  pub refused : (r .number ≡ 0 → ⊥) → r .sheet ≡ blank
+abbrev pub Reads : (s : List ℕ) → Reading → Type 0
+Reads s = Answers readKind (readRows s) (λ r. r .sheet ≡ sheetOf s)

@@ -1,12 +1,13 @@
 -- What writing answers: refusals 2, 3, 5 and 11, or the sheet's bytes.
 use Prim.Native.Nat.{ℕ, _<_}
-use mathlib.Core.Path.{_≡_}
+use mathlib.Core.Path.{_≡_, refl}
 use mathlib.Core.List.{List, [], _∷_, _++_}
 use lib.ListN.{length, drop}
 use Rattle.refusals.specs.Table.{counts}
 use Rattle.refusals.specs.Table.{version as wrong-version}
 use Rattle.refusals.specs.Table.{room as too-short}
-use Rattle.refusals.specs.First.{Row, row, First}
+use Rattle.refusals.specs.First.{Row, row}
+use Rattle.refusals.specs.Answer.{Kind, Answers}
 use Rattle.sheet.specs.declared.Sheet.{Sheet}
 use Rattle.sheet.specs.declared.Written.{Written}
 use Rattle.sheet.specs.Limits.{CountsFit}
@@ -51,11 +52,19 @@ writeRows f room =
     ∷ row too-short (room < sheetEnd (f .version) (f .n) (f .m))
     ∷ []
 
--- the first of the rows that applies, or the number of bytes needed
-pub record Judges (rows : List Row) (needed : ℕ) (r : Written) : Type 0 where
-  pub verdict : First rows (r .number) (r .place)
-  pub accepted : r .number ≡ 0 → r .length ≡ needed
-  pub refused : (r .number ≡ 0 → ⊥) → r .length ≡ 0
+-- a refusal's number and place, and no length
+abbrev pub writtenKind : Kind Written
+writtenKind = record {
+  number = λ r. r .number;
+  place = λ r. r .place;
+  refusal = λ number place. record { number = number; place = place; length = 0 };
+  tells-number = λ number place. refl;
+  tells-place = λ number place. refl;
+}
+
+-- the first of the rows that applies and nothing else, or the number of bytes needed
+abbrev pub Judges : (rows : List Row) (needed : ℕ) → Written → Type 0
+Judges rows needed = Answers writtenKind rows (λ r. r .length ≡ needed)
 
 -- a lent buffer afterwards: the sheet's bytes at its front and its rest as it was, or on a refusal all of it as it was
 pub record Writes (f : Sheet) (before after : List ℕ) (r : Written) : Type 0 where

@@ -25,7 +25,8 @@ use Rattle.counts.proofs.JoinLaws.{joined-through}
 use Rattle.checks.specs.Check.{columnsOf, netFor, delaysFor, CountsOf, stuckRow, chainRows, checkRows}
 use Rattle.checks.proofs.CheckLaws.{round-passed}
 use Rattle.planner.specs.declared.Planning.{Planning}
-use Rattle.planner.specs.Plan.{retimingRow, listsRow, roomRow, refusedBy, Answers, Plans}
+use Rattle.planner.specs.Plan.{refusedBy, planKind, retimedRows, AnswersPlan, Plans}
+use Rattle.refusals.proofs.AnswerLaws.{follows}
 use Rattle.planner.proofs.AnswerLaws.{answer-refused}
 use Rattle.table.specs.Rows.{written, stationEntries}
 
@@ -72,13 +73,11 @@ module _ (s : columns.Sheet) (limits : WithinLimits s) where
 
   -- and what comes after them
   pub chain-passed : First (chainRows (readSheet s)) 0 0 → {start round times start′ round′ times′ : List ℕ} {r : Planning}
-      → Answers (retimingRow (readSheet s) ∷ listsRow (readSheet s) ∷ roomRow (readSheet s) (length start) (length round) (length times) ∷ []) (readSheet s) start round times r start′ round′ times′
+      → AnswersPlan (retimedRows (readSheet s) (length start) (length round) (length times)) (readSheet s) start round times r start′ round′ times′
       → Plans (bytesOf (written s)) start round times r start′ round′ times′
   chain-passed v {start} {round} {times} {start′} {round′} {times′} {r} a =
-      let b =
-      subst (λ (f : Sheet). Answers (retimingRow f ∷ listsRow f ∷ roomRow f (length start) (length round) (length times) ∷ []) f start round times r start′ round′ times′) (sheet-back (written s) refl) a
-      in
-      record { verdict = append (checkRows (bytesOf (written s))) (all-passed (read-rows v) refl) (b .verdict); accepted = b .accepted; refused = b .refused }
+      follows (planKind start round times) (checkRows (bytesOf (written s))) (all-passed (read-rows v) refl)
+      (subst (λ (f : Sheet). AnswersPlan (retimedRows f (length start) (length round) (length times)) f start round times r start′ round′ times′) (sheet-back (written s) refl) a)
 
   -- any two stations are joined
   pub apart-passed : {rows : List Row} {number place : ℕ} → First rows number place → First (apartRow (netFor (readSheet s) []) ∷ rows) number place

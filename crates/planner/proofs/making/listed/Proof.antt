@@ -2,7 +2,9 @@ use native.Mathlib.Omega.{arith}
 use borrow.Author.Tests.{not-true, not-false}
 use borrow.Author.Needs.{needs}
 use Rattle.planner.specs.Making.{Begun}
-use Rattle.planner.proofs.AnswerLaws.{answer-refused, answer-passed}
+use Rattle.refusals.proofs.AnswerLaws.{passes}
+use Rattle.planner.specs.Plan.{planKind}
+use Rattle.planner.proofs.AnswerLaws.{answer-refused}
 use Rattle.planner.proofs.RowLaws.{lists-passed, lists-stuck}
 use Rattle.planner.proofs.WorkLaws.{small, back-small, firing-small}
 use Rattle.planner.proofs.making.listed.Statement.{statement}
@@ -54,7 +56,7 @@ same-length-3 c = search needs
 returns-2 : tie.Need-returns-2
 returns-2 c =
     let l = c .before .before .before .before .before .before in
-    answer-passed (lists-passed (begun (l .before .before .before .before .before .before) .retimed)) (l .lent .ensures)
+    passes (planKind _ _ _) (lists-passed (begun (l .before .before .before .before .before .before) .retimed)) (l .lent .ensures)
 
 pub listed-spec : {M : Type 1} → statement M
 listed-spec =

@@ -1,6 +1,6 @@
 use borrow.Author.Needs.{needs}
 use Rattle.checks.proofs.CheckLaws.{ready-own}
-use Rattle.planner.proofs.AnswerLaws.{answer-refused, check-refused, check-passed}
+use Rattle.planner.proofs.AnswerLaws.{check-refused, check-passed}
 use Rattle.planner.proofs.making.plan.Statement.{statement}
 use Rattle.planner.proofs.making.plan.Tie as tie
 
@@ -14,7 +14,7 @@ returns : tie.Need-returns
 returns c =
     let k = c .before .before .before in
     let a = k .before .before .before .before .before .args in
-    answer-refused _ _ (c .before .if1 .taken) (check-refused (k .check .ensures) (a .start .now) (a .round .now) (a .times .now) (c .before .if1 .taken)) (c .refused .ensures)
+    check-refused (k .check .ensures) (a .start .now) (a .round .now) (a .times .now) (c .before .if1 .taken) (c .refused .ensures)
 
 searched-requires : tie.Need-searched-requires
 searched-requires c κs =

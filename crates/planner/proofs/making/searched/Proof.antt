@@ -2,7 +2,9 @@ use native.Mathlib.Omega.{arith}
 use borrow.Author.Tests.{not-true, not-false}
 use borrow.Author.Needs.{needs}
 use Rattle.checks.proofs.CheckLaws.{ready-counted, ready-ordered, ready-given}
-use Rattle.planner.proofs.AnswerLaws.{answer-refused, answer-passed}
+use Rattle.refusals.proofs.AnswerLaws.{passes}
+use Rattle.planner.specs.Plan.{planKind}
+use Rattle.planner.proofs.AnswerLaws.{answer-refused}
 use Rattle.planner.proofs.RowLaws.{none-serve, serve-passed}
 use Rattle.planner.proofs.making.searched.Statement.{statement}
 use Rattle.planner.proofs.making.searched.Tie as tie
@@ -38,7 +40,7 @@ returns-2 c =
     let l = c .before .before .before .before .before .before in
     let e = l .before .before .before .before in
     let s = e .before .before in
-    answer-passed (serve-passed (record { ready = s .before .before .before .before .before .before .before .before .before .before .before .before .before .before .before .before .before .before .before .before .before .before .before .before .pre; retimes = s .search .ensures .found (not-false _ (e .if1 .left)) })) (l .listed .ensures)
+    passes (planKind _ _ _) (serve-passed (record { ready = s .before .before .before .before .before .before .before .before .before .before .before .before .before .before .before .before .before .before .before .before .before .before .before .before .pre; retimes = s .search .ensures .found (not-false _ (e .if1 .left)) })) (l .listed .ensures)
 
 pub searched-spec : {M : Type 1} → statement M
 searched-spec =

@@ -2,7 +2,9 @@ use Prim.Native.Nat.{_≤_}
 use mathlib.Core.Path.{refl}
 use native.Mathlib.Omega.{arith}
 use borrow.Author.Needs.{needs}
-use Rattle.sheet.proofs.ReadLaws.{passes, few-queues, refused-header, refused-field, accepted, reads-refused}
+use Rattle.sheet.proofs.ReadLaws.{passes, few-queues, refused-header, refused-field, accepted}
+use Rattle.refusals.proofs.AnswerLaws.{refuses}
+use Rattle.sheet.specs.Read.{readKind}
 use Rattle.sheet.proofs.reader.read.Statement.{statement}
 use Rattle.sheet.proofs.reader.read.Tie as tie
 
@@ -18,8 +20,8 @@ refused-requires c κs = search needs
 returns : tie.Need-returns
 returns c =
     let h = c .before .before in
-    reads-refused (h .before .before .args .s .now) _ _
-    (refused-header (h .before .before .args .s .now) (h .header-fault .ensures) (c .before .if1 .taken)) (c .before .if1 .taken) (c .refused .ensures)
+    refuses readKind _ _ (c .before .if1 .taken)
+    (refused-header (h .before .before .args .s .now) (h .header-fault .ensures) (c .before .if1 .taken)) (c .refused .ensures)
 
 fields-requires : tie.Need-fields-requires
 fields-requires c κs = passes _ (c .before .header-fault .ensures) (c .if1 .left)
@@ -37,9 +39,9 @@ returns-2 : tie.Need-returns-2
 returns-2 c =
     let b = c .before .before .before in
     let h = b .before .before .before in
-    reads-refused (h .before .before .args .s .now) _ _
+    refuses readKind _ _ (λ e. omega arith)
     (refused-field _ _ (b .before .fields .ensures) (h .header-fault .ensures) (b .before .before .if1 .left) (b .bad-queue .ensures) (c .before .if2 .taken))
-    (λ e. omega arith) (c .refused2 .ensures)
+    (c .refused2 .ensures)
 
 returns-3 : tie.Need-returns-3
 returns-3 c =

@@ -6,9 +6,10 @@ use borrow.Author.Needs.{needs}
 use Rattle.sheet.specs.declared.Sheet.{Sheet}
 use Rattle.sheet.specs.Limits.{CountsFit}
 use Rattle.sheet.specs.Format.{queueSize}
-use Rattle.sheet.specs.Write.{sheetFrom, SheetHanded}
+use Rattle.sheet.specs.Write.{sheetFrom, SheetHanded, writtenKind}
 use Rattle.sheet.proofs.FormatLaws.{known, unknown, part-same}
-use Rattle.sheet.proofs.WriteLaws.{refused-version, refused-counts, refused-queue, refused-room, clear, free-to-write, judges-refused}
+use Rattle.sheet.proofs.WriteLaws.{refused-version, refused-counts, refused-queue, refused-room, clear, free-to-write}
+use Rattle.refusals.proofs.AnswerLaws.{refuses}
 use Rattle.sheet.proofs.writer.judge.Statement.{statement}
 use Rattle.sheet.proofs.writer.judge.Tie as tie
 
@@ -44,8 +45,8 @@ refused-requires c κs = search needs
 returns : tie.Need-returns
 returns c =
     let q = c .before .before in
-    judges-refused _ _ (refused-version (sheet (begin q)) (begin q .args .room) (unknown refl (q .queue-size .ensures) (c .before .if1 .taken)))
-    (λ e. omega arith) (c .refused .ensures)
+    refuses writtenKind _ _ (λ e. omega arith) (refused-version (sheet (begin q)) (begin q .args .room) (unknown refl (q .queue-size .ensures) (c .before .if1 .taken)))
+    (c .refused .ensures)
 
 counts-fit-requires : tie.Need-counts-fit-requires
 counts-fit-requires c κs = search needs
@@ -57,9 +58,9 @@ returns-2 : tie.Need-returns-2
 returns-2 c =
     let k = c .before .before in
     let q = k .before .before in
-    judges-refused _ _
+    refuses writtenKind _ _ (λ e. omega arith)
     (refused-counts (sheet (begin q)) (begin q .args .room) (one (k .before)) (λ b. k .counts-fit .ensures .fails (not-true _ (c .before .if2 .taken)) (b .0)))
-    (λ e. omega arith) (c .refused2 .ensures)
+    (c .refused2 .ensures)
 
 handed-requires : tie.Need-handed-requires
 handed-requires c κs = search needs
@@ -72,9 +73,9 @@ returns-3 c =
     let h = c .before .before in
     let k = h .before .before in
     let q = k .before .before in
-    judges-refused _ _
+    refuses writtenKind _ _ (λ e. omega arith)
     (refused-counts (sheet (begin q)) (begin q .args .room) (one (k .before)) (λ b. h .handed .ensures .fails (not-true _ (c .before .if3 .taken)) (b .1)))
-    (λ e. omega arith) (c .refused3 .ensures)
+    (c .refused3 .ensures)
 
 first-bad-requires : tie.Need-first-bad-requires
 first-bad-requires c κs = let h = given c in omega arith
@@ -91,9 +92,9 @@ returns-4 c =
     let h = b .before in
     let k = h .before .before .before in
     let q = k .before .before in
-    judges-refused _ _
+    refuses writtenKind _ _ (λ e. omega arith)
     (refused-queue (sheet (begin q)) (begin q .args .room) (one (k .before)) (fits (h .before .before)) (given h) (b .first-bad .ensures) (c .before .if4 .taken))
-    (λ e. omega arith) (c .refused4 .ensures)
+    (c .refused4 .ensures)
 
 mul-length : tie.Need-mul-length
 mul-length c = omega (arith, small c, fits (c .before .before .before .before))
@@ -117,9 +118,9 @@ returns-5 c =
     let h = b .before in
     let k = h .before .before .before in
     let q = k .before .before in
-    judges-refused _ _
+    refuses writtenKind _ _ (λ e. omega arith)
     (refused-room (sheet (begin q)) (begin q .args .room) (one (k .before)) (fits (h .before .before)) (given h) (clear (sheet (begin q)) (b .first-bad .ensures) (z .if4 .left)) (omega (arith, part-same {m = begin q .args .m} (q .queue-size .ensures) refl)))
-    (λ e. omega arith) (c .refused5 .ensures)
+    (c .refused5 .ensures)
 
 returns-6 : tie.Need-returns-6
 returns-6 c =
