@@ -28,6 +28,10 @@ pub record Raising (n m : ℕ) (source sink produced consumed q : List ℕ) (tot
   pub below : (x : ℕ → ℕ) → Balances (netOf n m source sink produced consumed [] []) x → (v : ℕ) → at q v ≤ x v
 
 module _ (n m : ℕ) (source sink produced consumed q : List ℕ) where
+  -- 1 everywhere is at or below every vector that balances
+  ones-below : Ones n q → (x : ℕ → ℕ) → Balances (netOf n m source sink produced consumed [] []) x → (v : ℕ) → at q v ≤ x v
+  ones-below O x b v = ⊎-elim (λ h. omega (arith, O .ones .is v h, b .positive v h)) (λ h. omega (arith, O .ones .rest v h)) (lt-or-ge v n)
+
   pub raise-begin : Ones n q → Raising n m source sink produced consumed q n
   raise-begin O =
       record {
@@ -35,7 +39,7 @@ module _ (n m : ℕ) (source sink produced consumed q : List ℕ) where
         some = λ v h. omega (arith, O .ones .is v h);
         beyond = O .ones .rest;
         counted = sym (sum-same n (at q) (λ v. 1) (O .ones .is) ∙ sum-ones n);
-        below = λ x b v. ⊎-elim (λ h. omega (arith, O .ones .is v h, b .positive v h)) (λ h. omega (arith, O .ones .rest v h)) (lt-or-ge v n);
+        below = ones-below O;
       }
 
   module _ (total : ℕ) (R : Raising n m source sink produced consumed q total) where
