@@ -42,24 +42,26 @@ pub lone-6 : Met (refused (lone 7 [] 6) 9)
 unfolding front table
 lone-6 = slow-refused (lone 7 [] 6) (limits 6) (counted 6) _ (round 6) 0 (lit< tt) (lit< tt)
 
--- time 1 and a self-queue with no tokens, of rates 1 and this one
-self-limits : (rate : ℕ) → 1 ≤ rate → rate ≤ 64 → WithinLimits (lone 1 (queue 0 0 1 rate 0 ∷ []) 1)
-self-limits rate low high = record { numbers = omega arith; queues = upto _ 1 (tt, omega arith); joined = upto _ 1 (tt, here) }
+-- a self-queue of rates 1 and this one
+module _ (time target : ℕ) where
+  self-limits : (rate delay : ℕ) → 1 ≤ rate → rate ≤ 64 → delay ≤ 4095 → WithinLimits (lone time (queue 0 0 1 rate delay ∷ []) target)
+  self-limits rate delay low high few = record { numbers = omega arith; queues = upto _ 1 (tt, omega arith); joined = upto _ 1 (tt, here) }
 
-self-counted : Counted (lone 1 (queue 0 0 1 1 0 ∷ []) 1) (1 ∷ [])
-unfolding front table sheet-dec ℕ-discrete decLe decLt
-self-counted = record {
-  sound = sound-by (lone 1 (queue 0 0 1 1 0 ∷ []) 1) (1 ∷ []) tt;
-  least = λ x b. upto _ 1 (tt, b .positive 0 (lit< tt));
-  few = lit≤ tt;
-}
+  self-counted : Counted (lone time (queue 0 0 1 1 0 ∷ []) target) (1 ∷ [])
+  unfolding front table sheet-dec ℕ-discrete decLe decLt
+  self-counted = record {
+    sound = sound-by (lone time (queue 0 0 1 1 0 ∷ []) target) (1 ∷ []) tt;
+    least = λ x b. upto _ 1 (tt, b .positive 0 (lit< tt));
+    few = lit≤ tt;
+  }
 
-pub self-1 : Met (refused (lone 1 (queue 0 0 1 1 0 ∷ []) 1) 8)
-unfolding front table
-self-1 =
-    stuck-refused (lone 1 (queue 0 0 1 1 0 ∷ []) 1) (self-limits 1 (lit≤ tt) (lit≤ tt)) self-counted (λ v. 0)
-    (upto _ 1 (tt, λ h. record { queue = (0, lit< tt); to = refl; lacks = lit< tt })) 0 (lit< tt)
+  pub self-1 : Met (refused (lone time (queue 0 0 1 1 0 ∷ []) target) 8)
+  unfolding front table
+  self-1 =
+      stuck-refused (lone time (queue 0 0 1 1 0 ∷ []) target) (self-limits 1 0 (lit≤ tt) (lit≤ tt) (lit≤ tt)) self-counted (λ v. 0)
+      (upto _ 1 (tt, λ h. record { queue = (0, lit< tt); to = refl; lacks = lit< tt })) 0 (lit< tt)
 
-pub self-2 : Met (refused (lone 1 (queue 0 0 1 2 0 ∷ []) 1) 7)
-unfolding front table
-self-2 = counts-refused (lone 1 (queue 0 0 1 2 0 ∷ []) 1) (self-limits 2 (lit≤ tt) (lit≤ tt)) (λ x b few. omega (arith, b .balanced (0, lit< tt), b .positive 0 (lit< tt)))
+  pub self-2 : (delay : ℕ) → delay ≤ 4095 → Met (refused (lone time (queue 0 0 1 2 delay ∷ []) target) 7)
+  unfolding front table
+  self-2 delay few =
+      counts-refused (lone time (queue 0 0 1 2 delay ∷ []) target) (self-limits 2 delay (lit≤ tt) (lit≤ tt) few) (λ x b small. omega (arith, b .balanced (0, lit< tt), b .positive 0 (lit< tt)))

@@ -165,9 +165,9 @@ fan last = sheet (1 ∷ 1 ∷ 1 ∷ 1 ∷ 1 ∷ []) (queue 0 1 64 1 0 ∷ queue 
 abbrev pub fanRound : List ℕ
 fanRound = (0 ∷ []) ++ replicate 64 1 ++ replicate 64 2 ++ replicate 64 3 ++ replicate 63 4
 
--- All rows in the paper's order. Where it leaves numbers open, the station with a self-queue has time 1, target 1 and no tokens.
-abbrev pub benchTable : List BenchRow
-benchTable =
+-- All rows in the paper's order, with the numbers that it leaves open: time and target of the station with a self-queue, and where the rates are 1 and 2 the delay.
+abbrev pub benchTable : (time target delay : ℕ) → List BenchRow
+benchTable time target delay =
     acceptedAsGiven (K 4 5) 5 (2 ∷ 1 ∷ []) (0 ∷ 0 ∷ 1 ∷ []) (0 ∷ 0 ∷ 3 ∷ [])
     ∷ accepted (K 4 4) asPrinted
     ∷ accepted (K 4 3) asPrinted
@@ -177,8 +177,8 @@ benchTable =
     ∷ refused (K 1 9) 8
     ∷ acceptedAsGiven (lone 7 [] 7) 7 (1 ∷ []) (0 ∷ []) (0 ∷ [])
     ∷ refused (lone 7 [] 6) 9
-    ∷ refused (lone 1 (queue 0 0 1 1 0 ∷ []) 1) 8
-    ∷ refused (lone 1 (queue 0 0 1 2 0 ∷ []) 1) 7
+    ∷ refused (lone time (queue 0 0 1 1 0 ∷ []) target) 8
+    ∷ refused (lone time (queue 0 0 1 2 delay ∷ []) target) 7
     ∷ acceptedAsGiven (fan 63) 2 (1 ∷ 64 ∷ 64 ∷ 64 ∷ 63 ∷ []) fanRound (0 ∷ replicate 255 1)
     ∷ refused (fan 64) 7
     ∷ handAccepted (K 4 3) (negsuc 1 ∷ pos 0 ∷ []) 3
