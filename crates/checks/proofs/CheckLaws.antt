@@ -3,14 +3,13 @@ use Prim.Native.Nat.{ℕ, _+_, _≤_, _<_}
 use mathlib.Core.Path.{_≡_, refl, sym, subst, _∙_}
 use mathlib.Core.Bool.{Bool, true, false}
 use mathlib.Core.List.{List, [], _∷_, _++_}
-use mathlib.Core.Logic.{⊎-elim}
 use native.Mathlib.Nat.{le-dest}
 use native.Mathlib.Omega.{arith}
 use lib.ListN.{length, take, drop, replicate, length-take}
-use lib.Seq.{ext-getD, take-at, getD-append-add, getD-drop}
+use lib.Seq.{take-at, getD-append-add, getD-drop}
 use Rattle.lists.specs.Front.{at}
 use Rattle.lists.specs.Test.{Tells}
-use Rattle.lists.proofs.Order.{lt-or-ge}
+use Rattle.lists.proofs.FilledLaws.{same-list}
 use Rattle.lists.proofs.StoreLaws.{at-zeros}
 use Rattle.refusals.specs.First.{Row, Passed, nth, First, free}
 use Rattle.refusals.specs.Table.{apart, counts-fail, stuck}
@@ -55,8 +54,7 @@ any-counts f a b x c = record {
 -- the counts of a sheet are one list
 pub counts-of-once : (f : Sheet) (q q′ : List ℕ) → CountsOf f q → CountsOf f q′ → q ≡ q′
 counts-of-once f q q′ c c′ =
-    ext-getD 0 q q′ (c .entries ∙ sym (c′ .entries))
-    (λ v h. ⊎-elim (λ l. counts-once (netFor f q) (at q) (at q′) (c .counts) (any-counts f q′ q (at q′) (c′ .counts)) v l) (λ l. c .beyond v l ∙ sym (c′ .beyond v l)) (lt-or-ge v (f .n)))
+    same-list (f .n) q q′ (c .entries ∙ sym (c′ .entries)) (counts-once (netFor f q) (at q) (at q′) (c .counts) (any-counts f q′ q (at q′) (c′ .counts))) (c .beyond) (c′ .beyond)
 
 -- 8 is not given where a round can be fired
 pub round-passed : (f : Sheet) {q : List ℕ} → CountsOf f q → Sound (netFor f q) → (l : List ℕ) → RoundList (netFor f q) (delaysFor f q) l → Passed (stuckRow f)

@@ -2,11 +2,10 @@
 use Prim.Native.Nat.{ℕ, _<_}
 use mathlib.Core.Path.{_≡_, sym, ap, subst, _∙_}
 use mathlib.Core.List.{List}
-use mathlib.Core.Logic.{⊎-elim}
 use lib.ListN.{length, take}
-use lib.Seq.{ext-getD, getD-take}
+use lib.Seq.{getD-take}
 use Rattle.lists.specs.Front.{at}
-use Rattle.lists.proofs.Order.{lt-or-ge}
+use Rattle.lists.proofs.FilledLaws.{same-list}
 use Rattle.refusals.proofs.AnswerLaws.{answers-once}
 use Rattle.dataflow.specs.Counts.{sum}
 use Rattle.dataflow.specs.Lists.{RoundList}
@@ -63,7 +62,7 @@ module _ (r r′ : Checked) (z : Sized r) (z′ : Sized r′) where
       within k b = sym (getD-take (r .total) (r .list) k 0 b) ∙ ap (λ (x : List ℕ). at x k) front ∙ getD-take (r .total) (r′ .list) k 0 b
 
       list : r .list ≡ r′ .list
-      list = ext-getD 0 (r .list) (r′ .list) (z .entries ∙ sym (z′ .entries)) (λ k b. ⊎-elim (within k) (λ c. h .rest k c ∙ sym (h′ .rest k (rw (sym total) c))) (lt-or-ge k (r .total)))
+      list = same-list (r .total) (r .list) (r′ .list) (z .entries ∙ sym (z′ .entries)) within (h .rest) (λ k c. h′ .rest k (rw (sym total) c))
 
   pub check-unique : (s : List ℕ) → Checks s r → Checks s r′ → r ≡ r′
   check-unique s p p′ = answers-once checkedKind p p′ (λ number place h h′. same-ready _ h h′ number place)

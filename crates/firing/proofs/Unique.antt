@@ -10,7 +10,7 @@ use lib.Seq.{ext-getD, take-all}
 use Rattle.lists.specs.Front.{at}
 use Rattle.lists.specs.Put.{put}
 use Rattle.lists.proofs.Order.{order, lt-or-ge}
-use Rattle.lists.proofs.FilledLaws.{filled-once}
+use Rattle.lists.proofs.FilledLaws.{same-list, filled-once}
 use Rattle.dataflow.specs.Net.{Net}
 use Rattle.dataflow.specs.Counts.{sum}
 use Rattle.dataflow.specs.Sheet.{Below}
@@ -96,7 +96,7 @@ module _ (n m : ℕ) (source sink produced consumed delay time q : List ℕ) (to
   -- of the time table
   pub table-unique : (list : List ℕ) → Ordered n m source sink produced consumed delay time q total list → (table table′ : List ℕ) → Tabled n m source sink produced consumed delay time q total table
       → Tabled n m source sink produced consumed delay time q total table′ → length table ≡ length table′ → table ≡ table′
-  table-unique list o table table′ t t′ l = ext-getD 0 table table′ l (λ k h. ⊎-elim (within k) (λ b. t .rest k b ∙ sym (t′ .rest k b)) (lt-or-ge k total))
+  table-unique list o table table′ t t′ l = same-list total table table′ l within (t .rest) (t′ .rest)
     where
       within : (k : ℕ) → k < total → at table k ≡ at table′ k
       within k b =

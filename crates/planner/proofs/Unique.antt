@@ -1,14 +1,13 @@
 -- No second result and no second contents of the lent buffers meet the planner's contract.
-use Prim.Native.Nat.{ℕ, suc, _+_, _-_, _*_, _≤_, _<_}
+use Prim.Native.Nat.{ℕ, suc, _+_, _-_, _<_}
 use mathlib.Core.Path.{_≡_, sym, subst, ap, _∙_}
 use mathlib.Core.List.{List, _++_}
-use mathlib.Core.Logic.{⊎-elim}
 use native.Mathlib.Omega.{arith}
 use native.Mathlib.Decide.{ℕ-discrete}
 use lib.ListN.{length, take, drop, take-append-drop, length-take}
 use lib.Seq.{ext-getD, getD-take}
 use Rattle.lists.specs.Front.{at}
-use Rattle.lists.proofs.Order.{lt-or-ge}
+use Rattle.lists.proofs.FilledLaws.{same-list}
 use Rattle.refusals.proofs.FirstLaws.{unique}
 use Rattle.dataflow.specs.Net.{Sound}
 use Rattle.dataflow.specs.Counts.{sum}
@@ -19,6 +18,7 @@ use Rattle.dataflow.proofs.SumLaws.{sum-place}
 use Rattle.sheet.specs.declared.Sheet.{Sheet}
 use Rattle.checks.specs.Check.{columnsOf, netFor, delaysFor}
 use Rattle.checks.proofs.CheckLaws.{counts-of-once, rows-sound}
+use Rattle.retimed.proofs.Unique.{start-firings-unique}
 use Rattle.planner.specs.declared.Planning.{Planning}
 use Rattle.planner.specs.Plan.{Only, Planned, Left, planKind, Plans}
 use Rattle.planner.proofs.FitLaws.{read-free}
@@ -34,10 +34,6 @@ pub record Sized (r : Planning) : Type 0 where
 same-buffer : (k : ℕ) (before a b : List ℕ) → Only k before a → Only k before b → take k a ≡ take k b → a ≡ b
 same-buffer k before a b p p′ e =
     sym (take-append-drop k a) ∙ ap (λ (x : List ℕ). x ++ drop k a) e ∙ ap (λ (x : List ℕ). take k b ++ x) (p .rest ∙ sym (p′ .rest)) ∙ take-append-drop k b
-
--- where two lists of one length agree on the first entries and beyond them
-same-list : (n : ℕ) (a b : List ℕ) → length a ≡ length b → ((v : ℕ) → v < n → at a v ≡ at b v) → ((v : ℕ) → n ≤ v → at a v ≡ 0) → ((v : ℕ) → n ≤ v → at b v ≡ 0) → a ≡ b
-same-list n a b l e za zb = ext-getD 0 a b l (λ v h. ⊎-elim (λ x. e v x) (λ x. za v x ∙ sym (zb v x)) (lt-or-ge v n))
 
 module _ (f : Sheet) (start round times : List ℕ) (r r′ : Planning) (z : Sized r) (z′ : Sized r′) (start′ round′ times′ start″ round″ times″ : List ℕ)
     (p : Planned f start round times start′ round′ times′ r) (p′ : Planned f start round times start″ round″ times″ r′) (W : Sound (netFor f (r .q))) where
@@ -69,12 +65,7 @@ module _ (f : Sheet) (start round times : List ℕ) (r r′ : Planning) (z : Siz
 
   firings : r .start ≡ r′ .start
   firings =
-      same-list (f .n) (r .start) (r′ .start) (z .starts ∙ sym (z′ .starts))
-      (λ v h.
-      let b = ap (λ (x : ℕ). x * at (r .q) v) (same .back) in
-      let c = ap (λ (x : List ℕ). r′ .back * at x v) q in
-      omega (arith, p .firings .is v h, p′ .firings .is v h, same .retiming v h))
-      (p .firings .rest) (p′ .firings .rest)
+      start-firings-unique (f .n) (r .q) (r .retiming) (r .back) (r .start) (r′ .start) (p .firings) (rw (sym q, sym retiming, sym (same .back)) at (p′ .firings)) (z .starts ∙ sym (z′ .starts))
 
   starts : r .starts ≡ r′ .starts
   starts = p .starts ∙ ap (λ (x : List ℕ). sum (f .n) (at x)) firings ∙ sym (p′ .starts)

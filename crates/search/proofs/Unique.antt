@@ -3,12 +3,11 @@ use Prim.Native.Nat.{ℕ, _*_}
 use mathlib.Core.Path.{_≡_, refl, sym, ap, subst, _∙_}
 use mathlib.Core.Bool.{Bool, true, false}
 use mathlib.Core.List.{List}
-use mathlib.Core.Logic.{⊎-elim}
 use native.Mathlib.Omega.{arith}
 use lib.ListN.{length, take}
 use lib.Seq.{ext-getD, take-all}
 use Rattle.lists.specs.Front.{at}
-use Rattle.lists.proofs.Order.{lt-or-ge}
+use Rattle.lists.proofs.FilledLaws.{same-list}
 use Rattle.dataflow.specs.Net.{Net, Sound}
 use Rattle.dataflow.specs.Lists.{RoundList}
 use Rattle.dataflow.specs.Retiming.{whole}
@@ -66,15 +65,11 @@ module _ (n m : ℕ) (source sink produced consumed delay time q : List ℕ) (to
         retiming : r .retiming ≡ r′ .retiming
         retiming = ext-getD 0 (r .retiming) (r′ .retiming) (s .retimings ∙ sym (s′ .retimings)) (λ v b. searched-once G W d target (h .rounds .searched) (rw (sym rounds) at (h′ .rounds .searched)) v)
 
-        at-queue : (e : ℕ) → at (r .delay) e ≡ at (r′ .delay) e
-        at-queue e =
-            ⊎-elim
-            (λ l. omega (arith, new-delays c h (e, l), new-delays c h′ (e, l), ap (λ (x : List ℕ). at produced e * at x (at source e)) retiming, ap (λ (x : List ℕ). at consumed e * at x (at sink e)) retiming))
-            (λ l. h .rest e l ∙ sym (h′ .rest e l))
-            (lt-or-ge e m)
-
         delays : r .delay ≡ r′ .delay
-        delays = ext-getD 0 (r .delay) (r′ .delay) (s .delays ∙ sym (s′ .delays)) (λ e b. at-queue e)
+        delays =
+            same-list m (r .delay) (r′ .delay) (s .delays ∙ sym (s′ .delays))
+            (λ e l. omega (arith, new-delays c h (e, l), new-delays c h′ (e, l), ap (λ (x : List ℕ). at produced e * at x (at source e)) retiming, ap (λ (x : List ℕ). at consumed e * at x (at sink e)) retiming))
+            (h .rest) (h′ .rest)
 
         period : r .period ≡ r′ .period
         period = period-once G (delaysOf m (r .delay)) (r .period) (r′ .period) (h .period) (rw (sym delays) at (h′ .period))
