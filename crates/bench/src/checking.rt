@@ -3,6 +3,7 @@ ghost use Prim.Native.Nat.{_+_, _*_, _≤_};
 ghost use lib.ListN.{length};
 use crate::malformed;
 use crate::signs::i32_at;
+use print::Gathered;
 
 // The first k whole numbers behind the count.
 fn entries(body: &[u8], k: usize) -> [i32; 1000]
@@ -15,28 +16,28 @@ fn entries(body: &[u8], k: usize) -> [i32; 1000]
     list
 }
 
-fn show(sheet: &[u8], hand: &[i32]) {
+fn show(page: &mut [u8], out: Gathered, sheet: &[u8], hand: &[i32]) -> Gathered {
     let tried = hand::hand_period(sheet, hand);
     if tried.number != 0 {
-        return print::refusal(tried.number, tried.place);
+        return print::refusal(page, out, tried.number, tried.place);
     }
-    print::number(b"hand period ", tried.period as u64);
-    print::text(b"\n");
+    let line = print::number(page, out, b"hand period ", tried.period as u64);
+    print::text(page, line, b"\n")
 }
 
 // At most 1,000 entries behind their number, and a sheet.
-pub(crate) fn answer(body: &[u8]) {
+pub(crate) fn answer(page: &mut [u8], out: Gathered, body: &[u8]) -> Gathered {
     if body.len() < 2 {
-        return malformed();
+        return malformed(page, out);
     }
     let k = little::u16_at(body, 0) as usize;
     if 1000 < k {
-        return malformed();
+        return malformed(page, out);
     }
     let end = 2 + 4 * k;
     if body.len() < end {
-        return malformed();
+        return malformed(page, out);
     }
     let list = entries(body, k);
-    show(&body[end..], &list[..k]);
+    show(page, out, &body[end..], &list[..k])
 }

@@ -1,5 +1,6 @@
 // Kind 2: a sheet is planned with buffers of any length.
 use crate::malformed;
+use print::Gathered;
 
 // How many entries at the end still hold the filler, every bit set.
 fn kept_firings(buffer: &[u16]) -> usize {
@@ -24,39 +25,52 @@ fn kept_times(buffer: &[u32]) -> usize {
     buffer.len()
 }
 
-fn show(sheet: &[u8], start: &mut [u16], round: &mut [u16], times: &mut [u32]) {
+fn kept(page: &mut [u8], out: Gathered, start: &[u16], round: &[u16], times: &[u32]) -> Gathered {
+    let mut line = print::number(page, out, b"kept ", kept_firings(start) as u64);
+    line = print::number(page, line, b" ", kept_firings(round) as u64);
+    line = print::number(page, line, b" ", kept_times(times) as u64);
+    print::text(page, line, b"\n")
+}
+
+fn show(
+    page: &mut [u8],
+    out: Gathered,
+    sheet: &[u8],
+    start: &mut [u16],
+    round: &mut [u16],
+    times: &mut [u32],
+) -> Gathered {
     let planned = planner::plan(sheet, start, round, times);
-    printed::plan(planned, start, round, times);
-    print::number(b"kept ", kept_firings(start) as u64);
-    print::number(b" ", kept_firings(round) as u64);
-    print::number(b" ", kept_times(times) as u64);
-    print::text(b"\n");
+    let lines = printed::plan(page, out, planned, start, round, times);
+    kept(page, lines, start, round, times)
 }
 
 // Three lengths, at most those that no plan outgrows, and a sheet.
-pub(crate) fn answer(body: &[u8]) {
+pub(crate) fn answer(page: &mut [u8], out: Gathered, body: &[u8]) -> Gathered {
     if body.len() < 12 {
-        return malformed();
+        return malformed(page, out);
     }
     let starts = little::u32_at(body, 0) as usize;
     if 65536 < starts {
-        return malformed();
+        return malformed(page, out);
     }
     let rounds = little::u32_at(body, 4) as usize;
     if 256 < rounds {
-        return malformed();
+        return malformed(page, out);
     }
     let tables = little::u32_at(body, 8) as usize;
     if 256 < tables {
-        return malformed();
+        return malformed(page, out);
     }
     let mut start = [65535u16; 65536];
     let mut round = [65535u16; 256];
     let mut times = [4294967295u32; 256];
     show(
+        page,
+        out,
         &body[12..],
         &mut start[..starts],
         &mut round[..rounds],
         &mut times[..tables],
-    );
+    )
 }

@@ -1,4 +1,5 @@
 // Questions on standard input, answers on standard output.
+mod asking;
 mod checking;
 mod dispatching;
 mod lending;
@@ -9,94 +10,89 @@ mod signs;
 mod tracing;
 mod writing;
 
-ghost use Prim.Native.Nat.{_≤_, _<_, min};
-ghost use mathlib.Core.Path.{_≡_};
+ghost use Prim.Native.Nat.{_≤_};
 ghost use lib.ListN.{length};
-use libc::STDIN_FILENO;
+ghost use Rattle.bench.specs.Asked.{Within};
+use asking::Question;
+use asking::next;
+use print::Gathered;
 
-pub(crate) fn malformed() {
-    print::text(b"malformed\n");
+pub(crate) fn malformed(page: &mut [u8], out: Gathered) -> Gathered {
+    print::text(page, out, b"malformed\n")
 }
 
 // The answer to a question of a kind, or that it can't be taken apart.
-fn answer(kind: u8, body: &[u8]) {
+fn answer(page: &mut [u8], out: Gathered, kind: u8, body: &[u8]) -> Gathered {
     match kind {
-        1 => planning::answer(body),
-        2 => lending::answer(body),
-        3 => reading::answer(body),
-        4 => writing::answer(body),
-        5 => checking::answer(body),
-        6 => moving::answer(body),
-        7 => tracing::answer(body),
-        8 => dispatching::answer(body),
-        _ => malformed(),
+        1 => planning::answer(page, out, body),
+        2 => lending::answer(page, out, body),
+        3 => reading::answer(page, out, body),
+        4 => writing::answer(page, out, body),
+        5 => checking::answer(page, out, body),
+        6 => moving::answer(page, out, body),
+        7 => tracing::answer(page, out, body),
+        8 => dispatching::answer(page, out, body),
+        _ => malformed(page, out),
     }
 }
 
-fn least(a: usize, b: usize) -> usize
-    ensures { λ r. ⌜ r ≡ min a b ⌝ }
+// The lines of the answer to a question, behind its number.
+fn lines(index: u64, question: Question, space: &[u8], page: &mut [u8]) -> Gathered
+    requires { ⌜ (70000 ≤ length (now space)) × Within question ⌝ }
 {
-    if a < b { a } else { b }
-}
-
-// Passes over n bytes of input, by way of space; false where it ends before.
-fn skip(n: usize, space: &mut [u8]) -> bool
-    requires { ⌜ 0 < length (now space) ⌝ }
-{
-    let mut rest = n;
-    while 0 < rest {
-        let want = least(rest, space.len());
-        let got = io::read_full(STDIN_FILENO, &mut space[..want]);
-        if got < want {
-            return false;
-        }
-        rest -= want;
+    let numbered = print::number(page, print::nothing(), b"question ", index);
+    let named = print::text(page, numbered, b"\n");
+    match question {
+        Question::Asked(kind, n) => answer(page, named, kind, &space[..n]),
+        _ => malformed(page, named),
     }
-    true
 }
 
-// Reads the body of a question and answers it; false where the input ends inside it.
-fn answer_body(kind: u8, n: usize, space: &mut [u8]) -> bool
+// What comes after a question: the next one, or the end, in one of three ways.
+enum After {
+    Next,
+    Done,
+    Unread,
+    Cut,
+}
+
+// Writes the answer to a question. What comes after it, where all was written.
+fn respond(index: u64, question: Question, space: &[u8], page: &mut [u8], after: After) -> After
+    requires { ⌜ (70000 ≤ length (now space)) × Within question ⌝ }
+{
+    let gathered = lines(index, question, space, page);
+    let out = print::flush(page, gathered);
+    if out.whole {
+        return after;
+    }
+    After::Cut
+}
+
+// Reads and answers one question.
+fn serve(index: u64, space: &mut [u8], page: &mut [u8]) -> After
     requires { ⌜ 70000 ≤ length (now space) ⌝ }
 {
-    if 70000 < n {
-        malformed();
-        return skip(n, space);
+    let question = next(space);
+    match question {
+        Question::End => After::Done,
+        Question::Unread => After::Unread,
+        Question::Broken => respond(index, question, space, page, After::Done),
+        _ => respond(index, question, space, page, After::Next),
     }
-    let got = io::read_full(STDIN_FILENO, &mut space[..n]);
-    if got < n {
-        malformed();
-        return false;
-    }
-    answer(kind, &space[..n]);
-    true
-}
-
-// Reads and answers one question; false at the end of the input.
-fn answer_next(index: u64, space: &mut [u8]) -> bool
-    requires { ⌜ 70000 ≤ length (now space) ⌝ }
-{
-    let mut head = [0u8; 5];
-    let got = io::read_full(STDIN_FILENO, &mut head);
-    if got == 0 {
-        return false;
-    }
-    print::number(b"question ", index);
-    print::text(b"\n");
-    if got < 5 {
-        malformed();
-        return false;
-    }
-    answer_body(head[0], little::u32_at(&head, 1) as usize, space)
 }
 
 fn main() {
     let mut space = [0u8; 70000];
+    let mut page = [0u8; 4096];
     let mut index: u64 = 0;
-    while index < 1000000000 {
-        if !answer_next(index, &mut space) {
-            return;
+    while index < 18446744073709551615 {
+        let after = serve(index, &mut space, &mut page);
+        match after {
+            After::Next => index += 1,
+            After::Done => return streams::done(),
+            After::Unread => return streams::unread(),
+            After::Cut => return streams::cut(),
         }
-        index += 1;
     }
+    streams::done();
 }

@@ -1,6 +1,7 @@
 // Whole numbers of either sign in a question's bytes and in an answer's lines.
 ghost use Prim.Native.Nat.{_+_, _≤_};
 ghost use lib.ListN.{length};
+use print::Gathered;
 
 // The i32 in the four bytes from here on, two's complement.
 pub(crate) fn i32_at(body: &[u8], at: usize) -> i32
@@ -15,10 +16,11 @@ pub(crate) fn i32_at(body: &[u8], at: usize) -> i32
 }
 
 // A word and a number of either sign behind it.
-pub(crate) fn print_signed(word: &[u8], x: i32) {
-    print::text(word);
+pub(crate) fn print_signed(page: &mut [u8], out: Gathered, word: &[u8], x: i32) -> Gathered {
+    let line = print::text(page, out, word);
+    let size = signed::up(x) as u64 + signed::down(x) as u64;
     if x < 0 {
-        print::text(b"-");
+        return print::number(page, line, b"-", size);
     }
-    print::number(b"", signed::up(x) as u64 + signed::down(x) as u64);
+    print::number(page, line, b"", size)
 }

@@ -5,16 +5,23 @@ ghost use lib.ListN.{length};
 ghost use Rattle.sheet.specs.Limits.{Columns};
 ghost use Rattle.little.specs.Little.{Apart};
 use crate::malformed;
+use print::Gathered;
 
-fn buffer(out: &[u8]) {
-    print::text(b"buffer");
-    if 0 < out.len() {
-        print::text(b" ");
+fn bytes(page: &mut [u8], out: Gathered, lent: &[u8]) -> Gathered {
+    let mut line = out;
+    for i in 0..lent.len() {
+        line = print::byte(page, line, lent[i]);
     }
-    for i in 0..out.len() {
-        print::byte(out[i]);
+    line
+}
+
+fn buffer(page: &mut [u8], out: Gathered, lent: &[u8]) -> Gathered {
+    if lent.len() == 0 {
+        return print::text(page, out, b"buffer\n");
     }
-    print::text(b"\n");
+    let mut line = print::text(page, out, b"buffer ");
+    line = bytes(page, line, lent);
+    print::text(page, line, b"\n")
 }
 
 fn station_column(body: &[u8], from: usize, a: usize) -> [u16; 100]
@@ -94,18 +101,27 @@ fn write(body: &[u8], a: usize, b: usize, out: &mut [u8]) -> sheet::Written
     )
 }
 
-// Writes what a body hands over to the first lent bytes of out, and shows the answer and those bytes.
-fn show(body: &[u8], a: usize, b: usize, lent: usize, out: &mut [u8])
-    requires { ⌜ (a ≤ 100) × ((b ≤ 200) × ((lent ≤ length (now out)) × (length (now body) ≡ 18 + 4 * a + 10 * b))) ⌝ }
-{
-    let written = write(body, a, b, &mut out[..lent]);
-    if written.number != 0 {
-        print::refusal(written.number, written.place);
-    } else {
-        print::number(b"written ", written.length as u64);
-        print::text(b"\n");
+fn written(page: &mut [u8], out: Gathered, answer: sheet::Written) -> Gathered {
+    if answer.number != 0 {
+        return print::refusal(page, out, answer.number, answer.place);
     }
-    buffer(&out[..lent]);
+    let line = print::number(page, out, b"written ", answer.length as u64);
+    print::text(page, line, b"\n")
+}
+
+// Writes what a body hands over to the lent bytes, and shows the answer and those bytes.
+fn show(
+    page: &mut [u8],
+    out: Gathered,
+    body: &[u8],
+    a: usize,
+    b: usize,
+    lent: &mut [u8],
+) -> Gathered
+    requires { ⌜ (a ≤ 100) × ((b ≤ 200) × (length (now body) ≡ 18 + 4 * a + 10 * b)) ⌝ }
+{
+    let lines = written(page, out, write(body, a, b, lent));
+    buffer(page, lines, lent)
 }
 
 // The number of queues that a body with a stations hands over; 65,536 where it can't be taken apart.
@@ -123,10 +139,9 @@ fn queues_of(body: &[u8], a: usize) -> usize
     b
 }
 
-pub(crate) fn answer(body: &[u8]) {
+pub(crate) fn answer(page: &mut [u8], out: Gathered, body: &[u8]) -> Gathered {
     if body.len() < 18 {
-        malformed();
-        return;
+        return malformed(page, out);
     }
     let lent = little::u32_at(body, 10) as usize;
     let a = little::u16_at(body, 14) as usize;
@@ -134,11 +149,10 @@ pub(crate) fn answer(body: &[u8]) {
     if lent <= 2000 {
         if a <= 100 {
             if b <= 200 {
-                let mut out = [165u8; 2000];
-                show(body, a, b, lent, &mut out);
-                return;
+                let mut buffer = [165u8; 2000];
+                return show(page, out, body, a, b, &mut buffer[..lent]);
             }
         }
     }
-    malformed();
+    malformed(page, out)
 }

@@ -6,7 +6,7 @@ use native.Mathlib.Omega.{arith}
 use lib.ListN.{length}
 use Rattle.refusals.specs.Table.{Refusal, number, word}
 use Rattle.refusals.proofs.TableLaws.{number-within, number-once}
-use Rattle.print.specs.declared.Letters.{Letters}
+use Rattle.print.specs.declared.words.Letters.{Letters}
 use Rattle.print.specs.Spelled.{Spelled, letters}
 
 -- the word of a refusal

@@ -5,7 +5,7 @@ use lib.ListN.{length}
 use lib.Seq.{length-take-le}
 use Rattle.refusals.specs.Table.{Refusal, number}
 use Rattle.refusals.proofs.TableLaws.{number-dec}
-use Rattle.print.specs.declared.Letters.{Letters}
+use Rattle.print.specs.declared.words.Letters.{Letters}
 use Rattle.print.specs.Spelled.{Spelled, letters}
 
 -- of a refusal's number: what stands behind the letters is free

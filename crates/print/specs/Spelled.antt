@@ -4,7 +4,7 @@ use mathlib.Core.Path.{_≡_}
 use mathlib.Core.List.{List}
 use lib.ListN.{length, take}
 use Rattle.refusals.specs.Table.{Refusal, number, word}
-use Rattle.print.specs.declared.Letters.{Letters}
+use Rattle.print.specs.declared.words.Letters.{Letters}
 
 -- the letters, without the spaces behind them
 abbrev pub letters : Letters → List ℕ

@@ -1,15 +1,15 @@
+use borrow.Author.Needs.{needs}
 use Prim.Native.Nat.{_≤_, _-_}
 use mathlib.Core.Path.{_≡_}
 use lib.ListN.{length}
-use borrow.Author.Needs.{needs}
 use Rattle.printed.proofs.list.Statement.{statement}
 use Rattle.printed.proofs.list.Tie as tie
 
 abbrev Inv-loop : tie.InvT-loop
-Inv-loop word entries k₀ t4 k-end k = (k ≤ k-end) × (k-end ≡ length entries)
+Inv-loop page₀ word entries line₀ k₀ t7 k-end page line k = (k ≤ k-end) × (k-end ≡ length entries) × (length page ≡ length page₀)
 
 abbrev μ-loop : tie.MeasureT-loop
-μ-loop word entries k₀ t4 k-end k = k-end - k
+μ-loop page₀ word entries line₀ k₀ t7 k-end page line k = k-end - k
 
 text-requires : tie.Need-text-requires Inv-loop μ-loop
 text-requires c κs = search needs
@@ -41,6 +41,9 @@ slice-aggregate-text c = search needs
 text-requires-2 : tie.Need-text-requires-2 Inv-loop μ-loop
 text-requires-2 c κs = search needs
 
+same-length : tie.Need-same-length Inv-loop μ-loop
+same-length c = search needs
+
 returns : tie.Need-returns Inv-loop μ-loop
 returns c = search needs
 
@@ -60,4 +63,5 @@ list-spec =
     loop-again
     slice-aggregate-text
     text-requires-2
+    same-length
     returns)

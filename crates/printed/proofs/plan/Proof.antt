@@ -1,27 +1,30 @@
 use mathlib.Core.Path.{sym}
 use lib.Seq.{length-take-le}
-use borrow.Author.Needs.{needs}
 use Rattle.planner.specs.Fits.{Fits}
+use borrow.Author.Needs.{needs}
 use Rattle.printed.proofs.plan.Statement.{statement}
 use Rattle.printed.proofs.plan.Tie as tie
 
-fits : (c : tie.Else1) → Fits (c .before .before .before .before .before .args .p) (c .before .before .before .before .before .args .start .now) (c .before .before .before .before .before .args .round .now) (c .before .before .before .before .before .args .table .now)
-fits c = c .before .before .before .before .before .pre (c .if1 .left)
+fits : (c : tie.Else1) → Fits (c .before .before .before .before .before .before .args .p) (c .before .before .before .before .before .before .args .start .now) (c .before .before .before .before .before .before .args .round .now) (c .before .before .before .before .before .before .args .table .now)
+fits c = c .before .before .before .before .before .before .pre (c .if1 .left)
 
 refusal-requires : tie.Need-refusal-requires
 refusal-requires c κs = search needs
+
+same-length : tie.Need-same-length
+same-length c = search needs
 
 returns : tie.Need-returns
 returns c = search needs
 
 numbers-requires : tie.Need-numbers-requires
-numbers-requires c κs = (fits c .stations, fits c .queues)
+numbers-requires c κs = (fits (c .before) .stations, fits (c .before) .queues)
 
 slice-aggregate-list : tie.Need-slice-aggregate-list
 slice-aggregate-list c = search needs
 
 slice-aggregate-list-2 : tie.Need-slice-aggregate-list-2
-slice-aggregate-list-2 c = let a = c .before .before .before .before .before .before .before .before .args in sym (length-take-le (a .p .starts) (a .start .now) (fits (c .before .before .before) .start-entries))
+slice-aggregate-list-2 c = sym (length-take-le _ _ (fits (c .before .before .before .before .before .before .before) .start-entries))
 
 list-requires : tie.Need-list-requires
 list-requires c κs = search needs
@@ -30,16 +33,19 @@ slice-aggregate-list-3 : tie.Need-slice-aggregate-list-3
 slice-aggregate-list-3 c = search needs
 
 slice-aggregate-list-4 : tie.Need-slice-aggregate-list-4
-slice-aggregate-list-4 c = let a = c .before .before .before .before .before .before .before .before .before .before .before .args in sym (length-take-le (a .p .total) (a .round .now) (fits (c .before .before .before .before .before .before) .round-entries))
+slice-aggregate-list-4 c = sym (length-take-le _ _ (fits (c .before .before .before .before .before .before .before .before .before .before .before .before .before) .round-entries))
 
 list-requires-2 : tie.Need-list-requires-2
 list-requires-2 c κs = search needs
 
 slice-aggregate-times : tie.Need-slice-aggregate-times
-slice-aggregate-times c = let a = c .before .before .before .before .before .before .before .before .before .before .before .before .before .args in sym (length-take-le (a .p .total) (a .table .now) (fits (c .before .before .before .before .before .before .before .before) .times-entries))
+slice-aggregate-times c = sym (length-take-le _ _ (fits (c .before .before .before .before .before .before .before .before .before .before .before .before .before .before .before .before .before .before) .times-entries))
 
 times-requires : tie.Need-times-requires
 times-requires c κs = search needs
+
+same-length-2 : tie.Need-same-length-2
+same-length-2 c = search needs
 
 returns-2 : tie.Need-returns-2
 returns-2 c = search needs
@@ -49,6 +55,7 @@ plan-spec =
     tie.close
     (tie.spec
     refusal-requires
+    same-length
     returns
     numbers-requires
     slice-aggregate-list
@@ -59,4 +66,5 @@ plan-spec =
     list-requires-2
     slice-aggregate-times
     times-requires
+    same-length-2
     returns-2)

@@ -1,13 +1,15 @@
-use Prim.Native.Nat.{_≤_, _-_}
 use borrow.Author.Needs.{needs}
+use Prim.Native.Nat.{_≤_, _-_}
+use mathlib.Core.Path.{_≡_}
+use lib.ListN.{length}
 use Rattle.printed.proofs.queues.Statement.{statement}
 use Rattle.printed.proofs.queues.Tie as tie
 
 abbrev Inv-loop : tie.InvT-loop
-Inv-loop m delay room e₀ e = e ≤ m
+Inv-loop page₀ m delay room lines₀ e₀ page lines e = (e ≤ m) × (length page ≡ length page₀)
 
 abbrev μ-loop : tie.MeasureT-loop
-μ-loop m delay room e₀ e = m - e
+μ-loop page₀ m delay room lines₀ e₀ page lines e = m - e
 
 loop-holds : tie.Need-loop-holds Inv-loop μ-loop
 loop-holds c = search needs
@@ -36,6 +38,9 @@ loop-less c = search needs
 loop-again : tie.Need-loop-again Inv-loop μ-loop
 loop-again c = search needs
 
+same-length : tie.Need-same-length Inv-loop μ-loop
+same-length c = search needs
+
 returns : tie.Need-returns Inv-loop μ-loop
 returns c = search needs
 
@@ -54,4 +59,5 @@ queues-spec =
     add-e
     loop-less
     loop-again
+    same-length
     returns)

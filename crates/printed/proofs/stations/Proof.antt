@@ -1,13 +1,15 @@
-use Prim.Native.Nat.{_≤_, _-_}
 use borrow.Author.Needs.{needs}
+use Prim.Native.Nat.{_≤_, _-_}
+use mathlib.Core.Path.{_≡_}
+use lib.ListN.{length}
 use Rattle.printed.proofs.stations.Statement.{statement}
 use Rattle.printed.proofs.stations.Tie as tie
 
 abbrev Inv-loop : tie.InvT-loop
-Inv-loop n tag q retiming start v₀ v = v ≤ n
+Inv-loop page₀ n tag q retiming start lines₀ v₀ page lines v = (v ≤ n) × (length page ≡ length page₀)
 
 abbrev μ-loop : tie.MeasureT-loop
-μ-loop n tag q retiming start v₀ v = n - v
+μ-loop page₀ n tag q retiming start lines₀ v₀ page lines v = n - v
 
 loop-holds : tie.Need-loop-holds Inv-loop μ-loop
 loop-holds c = search needs
@@ -48,6 +50,9 @@ loop-less c = search needs
 loop-again : tie.Need-loop-again Inv-loop μ-loop
 loop-again c = search needs
 
+same-length : tie.Need-same-length Inv-loop μ-loop
+same-length c = search needs
+
 returns : tie.Need-returns Inv-loop μ-loop
 returns c = search needs
 
@@ -70,4 +75,5 @@ stations-spec =
     add-v
     loop-less
     loop-again
+    same-length
     returns)

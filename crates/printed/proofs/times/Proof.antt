@@ -1,15 +1,15 @@
+use borrow.Author.Needs.{needs}
 use Prim.Native.Nat.{_≤_, _-_}
 use mathlib.Core.Path.{_≡_}
 use lib.ListN.{length}
-use borrow.Author.Needs.{needs}
 use Rattle.printed.proofs.times.Statement.{statement}
 use Rattle.printed.proofs.times.Tie as tie
 
 abbrev Inv-loop : tie.InvT-loop
-Inv-loop entries k₀ t4 k-end k = (k ≤ k-end) × (k-end ≡ length entries)
+Inv-loop page₀ entries line₀ k₀ t7 k-end page line k = (k ≤ k-end) × (k-end ≡ length entries) × (length page ≡ length page₀)
 
 abbrev μ-loop : tie.MeasureT-loop
-μ-loop entries k₀ t4 k-end k = k-end - k
+μ-loop page₀ entries line₀ k₀ t7 k-end page line k = k-end - k
 
 slice-aggregate-text : tie.Need-slice-aggregate-text Inv-loop μ-loop
 slice-aggregate-text c = search needs
@@ -44,6 +44,9 @@ slice-aggregate-text-2 c = search needs
 text-requires-2 : tie.Need-text-requires-2 Inv-loop μ-loop
 text-requires-2 c κs = search needs
 
+same-length : tie.Need-same-length Inv-loop μ-loop
+same-length c = search needs
+
 returns : tie.Need-returns Inv-loop μ-loop
 returns c = search needs
 
@@ -64,4 +67,5 @@ times-spec =
     loop-again
     slice-aggregate-text-2
     text-requires-2
+    same-length
     returns)

@@ -7,6 +7,9 @@ use Rattle.bench.proofs.checking.answer.Tie as tie
 malformed-requires : tie.Need-malformed-requires
 malformed-requires c κs = search needs
 
+same-length : tie.Need-same-length
+same-length c = search needs
+
 returns : tie.Need-returns
 returns c = search needs
 
@@ -19,6 +22,9 @@ cast-k c = search needs
 malformed-requires-2 : tie.Need-malformed-requires-2
 malformed-requires-2 c κs = search needs
 
+same-length-2 : tie.Need-same-length-2
+same-length-2 c = search needs
+
 returns-2 : tie.Need-returns-2
 returns-2 c = search needs
 
@@ -30,6 +36,9 @@ add-end c = search needs
 
 malformed-requires-3 : tie.Need-malformed-requires-3
 malformed-requires-3 c κs = search needs
+
+same-length-3 : tie.Need-same-length-3
+same-length-3 c = search needs
 
 returns-3 : tie.Need-returns-3
 returns-3 c = search needs
@@ -55,6 +64,9 @@ slice-aggregate-show c = simp length-take (omega arith)
 show-requires : tie.Need-show-requires
 show-requires c κs = search needs
 
+same-length-4 : tie.Need-same-length-4
+same-length-4 c = search needs
+
 returns-4 : tie.Need-returns-4
 returns-4 c = search needs
 
@@ -63,14 +75,17 @@ answer-spec =
     tie.close
     (tie.spec
     malformed-requires
+    same-length
     returns
     u16-at-requires
     cast-k
     malformed-requires-2
+    same-length-2
     returns-2
     mul-end
     add-end
     malformed-requires-3
+    same-length-3
     returns-3
     entries-requires
     sub-show
@@ -79,4 +94,5 @@ answer-spec =
     array-share-prefix-list
     slice-aggregate-show
     show-requires
+    same-length-4
     returns-4)

@@ -55,6 +55,9 @@ rest-requires c κs = search needs
 list-requires : tie.Need-list-requires
 list-requires c κs = search needs
 
+same-length : tie.Need-same-length
+same-length c = search needs
+
 returns : tie.Need-returns
 returns c = search needs
 
@@ -79,4 +82,5 @@ show-spec =
     slice-aggregate-rest-2
     rest-requires
     list-requires
+    same-length
     returns)

@@ -7,6 +7,9 @@ use Rattle.bench.proofs.lending.answer.Tie as tie
 malformed-requires : tie.Need-malformed-requires
 malformed-requires c κs = search needs
 
+same-length : tie.Need-same-length
+same-length c = search needs
+
 returns : tie.Need-returns
 returns c = search needs
 
@@ -18,6 +21,9 @@ cast-starts c = search needs
 
 malformed-requires-2 : tie.Need-malformed-requires-2
 malformed-requires-2 c κs = search needs
+
+same-length-2 : tie.Need-same-length-2
+same-length-2 c = search needs
 
 returns-2 : tie.Need-returns-2
 returns-2 c = search needs
@@ -31,6 +37,9 @@ cast-rounds c = search needs
 malformed-requires-3 : tie.Need-malformed-requires-3
 malformed-requires-3 c κs = search needs
 
+same-length-3 : tie.Need-same-length-3
+same-length-3 c = search needs
+
 returns-3 : tie.Need-returns-3
 returns-3 c = search needs
 
@@ -42,6 +51,9 @@ cast-tables c = search needs
 
 malformed-requires-4 : tie.Need-malformed-requires-4
 malformed-requires-4 c κs = search needs
+
+same-length-4 : tie.Need-same-length-4
+same-length-4 c = search needs
 
 returns-4 : tie.Need-returns-4
 returns-4 c = search needs
@@ -76,6 +88,9 @@ slice-aggregate-show-3 c = simp length-take (omega arith)
 show-requires : tie.Need-show-requires
 show-requires c κs = search needs
 
+same-length-5 : tie.Need-same-length-5
+same-length-5 c = search needs
+
 returns-5 : tie.Need-returns-5
 returns-5 c = search needs
 
@@ -84,18 +99,22 @@ answer-spec =
     tie.close
     (tie.spec
     malformed-requires
+    same-length
     returns
     u32-at-requires
     cast-starts
     malformed-requires-2
+    same-length-2
     returns-2
     u32-at-requires-2
     cast-rounds
     malformed-requires-3
+    same-length-3
     returns-3
     u32-at-requires-3
     cast-tables
     malformed-requires-4
+    same-length-4
     returns-4
     sub-show
     part-show-start
@@ -107,4 +126,5 @@ answer-spec =
     array-borrow-prefix-times
     slice-aggregate-show-3
     show-requires
+    same-length-5
     returns-5)

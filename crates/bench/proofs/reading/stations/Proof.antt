@@ -1,13 +1,15 @@
-use Prim.Native.Nat.{_≤_, _-_}
 use borrow.Author.Needs.{needs}
+use Prim.Native.Nat.{_≤_, _-_}
+use mathlib.Core.Path.{_≡_}
+use lib.ListN.{length}
 use Rattle.bench.proofs.reading.stations.Statement.{statement}
 use Rattle.bench.proofs.reading.stations.Tie as tie
 
 abbrev Inv-loop : tie.InvT-loop
-Inv-loop n tag time i₀ i = i ≤ n
+Inv-loop page₀ n tag time lines₀ i₀ page lines i = (i ≤ n) × (length page ≡ length page₀)
 
 abbrev μ-loop : tie.MeasureT-loop
-μ-loop n tag time i₀ i = n - i
+μ-loop page₀ n tag time lines₀ i₀ page lines i = n - i
 
 loop-holds : tie.Need-loop-holds Inv-loop μ-loop
 loop-holds c = search needs
@@ -36,6 +38,9 @@ loop-less c = search needs
 loop-again : tie.Need-loop-again Inv-loop μ-loop
 loop-again c = search needs
 
+same-length : tie.Need-same-length Inv-loop μ-loop
+same-length c = search needs
+
 returns : tie.Need-returns Inv-loop μ-loop
 returns c = search needs
 
@@ -54,4 +59,5 @@ stations-spec =
     add-i
     loop-less
     loop-again
+    same-length
     returns)

@@ -2,8 +2,8 @@ use mathlib.Core.Path.{refl}
 use native.Mathlib.Omega.{arith}
 use Rattle.refusals.specs.Table.{short, version, counts, layout, field, apart, counts-fail, stuck, no-retiming, list-stuck, room, hand, negative, slow, token}
 use Rattle.print.proofs.SpelledLaws.{spelled, NoneOf, spelled-none}
-use Rattle.print.proofs.word.Statement.{statement}
-use Rattle.print.proofs.word.Tie as tie
+use Rattle.print.proofs.words.word.Statement.{statement}
+use Rattle.print.proofs.words.word.Tie as tie
 
 returns : tie.Need-returns
 returns c = spelled short (omega arith) (omega arith) refl
