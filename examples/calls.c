@@ -1,25 +1,38 @@
 /* calls: tries each function of the header on the paper's sample, accepted and refused, and says
- * how many answers were as expected. It holds the header to the library. */
+ * how many calls were made and whether each expectation was met. With layout.h it holds the header
+ * to the library. Every field of an answer is other than 0 in some expectation. */
 #include <stdbool.h>
 #include <stdio.h>
 #include <string.h>
 
+#include "layout.h"
 #include "tasselbrook.h"
+
+/* A call of the library, counted. */
+#define CALL(call) (calls++, (call))
 
 /* K(4,3), as the paper prints it */
 static const uint8_t sheet[] = {1, 0, 2, 0, 2, 0, 0, 0, 20, 0, 0, 0, 28, 0, 0, 0,
                                 3, 0, 0, 0, 1, 0, 3, 0, 2,  0, 2, 0, 0,  0, 1, 0,
                                 1, 0, 2, 0, 0, 0, 1, 0, 0,  0, 2, 0, 1,  0, 4, 0};
 static const size_t length = sizeof sheet;
-static int as_expected, otherwise;
+static int calls, met, not_met;
 
 static void expect(bool holds, const char *what) {
   if (holds) {
-    as_expected++;
+    met++;
   } else {
-    otherwise++;
+    not_met++;
     printf("not as expected: %s\n", what);
   }
+}
+
+/* The sheet with a delay of 4,100 on queue 1: refusal 5, place 1 */
+static const uint8_t *bad_field(void) {
+  static uint8_t bad[sizeof sheet];
+  memcpy(bad, sheet, length);
+  bad[length - 1] = 16;
+  return bad;
 }
 
 /* Whether all bytes are those of a buffer that nothing was written to. */
@@ -31,7 +44,7 @@ static bool untouched(const void *buffer, size_t bytes) {
 }
 
 static void try_read(void) {
-  struct tasselbrook_reading r = tasselbrook_read(sheet, length);
+  struct tasselbrook_reading r = CALL(tasselbrook_read(sheet, length));
   const struct tasselbrook_sheet *s = &r.sheet;
   expect(r.number == TASSELBROOK_ACCEPTED && r.place == 0, "read accepts");
   expect(s->version == 1 && s->n == 2 && s->m == 2 && s->target == 3, "read header");
@@ -40,12 +53,9 @@ static void try_read(void) {
   expect(s->source[1] == 1 && s->sink[0] == 1 && s->source[63] == 0, "read ends of queues");
   expect(s->produced[1] == 2 && s->consumed[0] == 2 && s->sink[63] == 0, "read rates");
   expect(s->delay[0] == 0 && s->delay[1] == 4 && s->delay[63] == 0, "read delays");
-  r = tasselbrook_read(sheet, length - 1);
+  r = CALL(tasselbrook_read(sheet, length - 1));
   expect(r.number == TASSELBROOK_LAYOUT && r.place == 0 && r.sheet.n == 0, "read 4");
-  uint8_t bad_field[sizeof sheet];
-  memcpy(bad_field, sheet, length);
-  bad_field[length - 1] = 16; /* a delay of 4,100 on queue 1 */
-  r = tasselbrook_read(bad_field, length);
+  r = CALL(tasselbrook_read(bad_field(), length));
   expect(r.number == TASSELBROOK_FIELD && r.place == 1 && r.sheet.delay[1] == 0, "read 5");
 }
 
@@ -53,13 +63,13 @@ static void try_read(void) {
 static struct tasselbrook_written write_sheet(const struct tasselbrook_sheet *s, uint16_t version,
                                               size_t delays, uint8_t *buffer, size_t lent) {
   memset(buffer, 0xAA, 60);
-  return tasselbrook_write(version, s->n, s->m, s->target, s->tag, 2, s->time, 2, s->source, 2,
-                           s->sink, 2, s->produced, 2, s->consumed, 2, s->delay, delays, buffer,
-                           lent);
+  return CALL(tasselbrook_write(version, s->n, s->m, s->target, s->tag, 2, s->time, 2, s->source, 2,
+                                s->sink, 2, s->produced, 2, s->consumed, 2, s->delay, delays,
+                                buffer, lent));
 }
 
 static void try_write(void) {
-  struct tasselbrook_sheet s = tasselbrook_read(sheet, length).sheet;
+  struct tasselbrook_sheet s = CALL(tasselbrook_read(sheet, length)).sheet;
   uint8_t buffer[60];
   struct tasselbrook_written w = write_sheet(&s, 1, 2, buffer, 60);
   expect(w.number == TASSELBROOK_ACCEPTED && w.place == 0 && w.length == length, "write accepts");
@@ -82,12 +92,15 @@ static void try_plan(void) {
   memset(start, 0xAA, sizeof start);
   memset(round, 0xAA, sizeof round);
   memset(times, 0xAA, sizeof times);
-  struct tasselbrook_planning p = tasselbrook_plan(sheet, length, start, 1, round, 4, times, 4);
+  struct tasselbrook_planning p =
+      CALL(tasselbrook_plan(bad_field(), length, start, 4, round, 4, times, 4));
+  expect(p.number == TASSELBROOK_FIELD && p.place == 1 && p.n == 0, "plan 5");
+  p = CALL(tasselbrook_plan(sheet, length, start, 1, round, 4, times, 4));
   expect(p.number == TASSELBROOK_ROOM && p.place == 0 && p.n == 0 && p.room[1] == 0, "plan 11");
   expect(untouched(start, sizeof start) && untouched(round, sizeof round) &&
              untouched(times, sizeof times),
-         "plan 11 writes nothing");
-  p = tasselbrook_plan(sheet, length, start, 4, round, 4, times, 4);
+         "plan 5 and 11 write nothing");
+  p = CALL(tasselbrook_plan(sheet, length, start, 4, round, 4, times, 4));
   expect(p.number == TASSELBROOK_ACCEPTED && p.n == 2 && p.m == 2 && p.period == 3, "plan accepts");
   expect(p.rounds == 1 && p.back == 1 && p.starts == 2 && p.total == 3, "plan numbers");
   expect(p.tag[1] == 2 && p.q[0] == 2 && p.retiming[1] == 1 && p.start[0] == 2, "plan stations");
@@ -97,57 +110,69 @@ static void try_plan(void) {
   expect(times[0] == 0 && times[2] == 0 && untouched(times + 3, 4), "plan time table");
 }
 
-static void expect_hand(size_t entries, int32_t first, int32_t second, uint32_t number,
-                        uint32_t period, const char *what) {
+static void expect_hand(size_t entries, int32_t first, int32_t second,
+                        struct tasselbrook_hand_period is, const char *what) {
   int32_t list[3] = {first, second, 0};
-  struct tasselbrook_hand_period h = tasselbrook_hand_period(sheet, length, list, entries);
-  expect(h.number == number && h.place == 0 && h.period == period, what);
+  struct tasselbrook_hand_period h = CALL(tasselbrook_hand_period(sheet, length, list, entries));
+  expect(h.number == is.number && h.place == is.place && h.period == is.period, what);
 }
 
 static void try_hand(void) {
-  expect_hand(2, -2, 0, TASSELBROOK_ACCEPTED, 3, "hand -2 0");
-  expect_hand(2, 0, -1, TASSELBROOK_NEGATIVE, 0, "hand 0 -1");
-  expect_hand(2, 0, 0, TASSELBROOK_SLOW, 0, "hand 0 0");
-  expect_hand(3, -2, 0, TASSELBROOK_HAND, 0, "hand of three entries");
-  expect_hand(2, -65536, 0, TASSELBROOK_HAND, 0, "hand -65,536 0");
+  expect_hand(2, -2, 0, (struct tasselbrook_hand_period){0, 0, 3}, "hand -2 0");
+  expect_hand(2, 0, -1, (struct tasselbrook_hand_period){TASSELBROOK_NEGATIVE, 0, 0}, "hand 0 -1");
+  expect_hand(2, 0, 3, (struct tasselbrook_hand_period){TASSELBROOK_NEGATIVE, 1, 0}, "hand 0 3");
+  expect_hand(2, 0, 0, (struct tasselbrook_hand_period){TASSELBROOK_SLOW, 0, 0}, "hand 0 0");
+  expect_hand(3, -2, 0, (struct tasselbrook_hand_period){TASSELBROOK_HAND, 0, 0},
+              "hand of three entries");
+  expect_hand(2, -65536, 0, (struct tasselbrook_hand_period){TASSELBROOK_HAND, 0, 0},
+              "hand -65,536 0");
 }
 
-static void expect_move(size_t station, uint32_t copy, int32_t r, uint32_t number, uint32_t to,
-                        int32_t shift, const char *what) {
-  struct tasselbrook_moved m = tasselbrook_one_move(sheet, length, station, copy, r);
-  expect(m.number == number && m.place == 0 && m.copy == to && m.shift == shift, what);
+static void expect_move(const uint8_t *bytes, size_t station, uint32_t copy, int32_t r,
+                        struct tasselbrook_moved is, const char *what) {
+  struct tasselbrook_moved m = CALL(tasselbrook_one_move(bytes, length, station, copy, r));
+  expect(m.number == is.number && m.place == is.place && m.copy == is.copy && m.shift == is.shift,
+         what);
 }
 
 static void try_move(void) {
-  expect_move(0, 1, -1, TASSELBROOK_ACCEPTED, 2, -1, "move copy 1 by -1");
-  expect_move(0, 2, 65535, TASSELBROOK_ACCEPTED, 1, 32768, "move copy 2 by 65,535");
-  expect_move(2, 1, 0, TASSELBROOK_HAND, 0, 0, "move of no station");
-  expect_move(0, 3, 0, TASSELBROOK_HAND, 0, 0, "move of no copy");
+  expect_move(sheet, 0, 1, -1, (struct tasselbrook_moved){0, 0, 2, -1}, "move copy 1 by -1");
+  expect_move(sheet, 0, 2, 65535, (struct tasselbrook_moved){0, 0, 1, 32768},
+              "move copy 2 by 65,535");
+  expect_move(sheet, 2, 1, 0, (struct tasselbrook_moved){TASSELBROOK_HAND, 0, 0, 0},
+              "move of no station");
+  expect_move(sheet, 0, 3, 0, (struct tasselbrook_moved){TASSELBROOK_HAND, 0, 0, 0},
+              "move of no copy");
+  expect_move(bad_field(), 0, 1, 0, (struct tasselbrook_moved){TASSELBROOK_FIELD, 1, 0, 0},
+              "move 5");
 }
 
-static void expect_origin(size_t queue, uint32_t firing, uint32_t token,
+static void expect_origin(const uint8_t *bytes, size_t queue, uint32_t firing, uint32_t token,
                           struct tasselbrook_origin is, const char *what) {
-  struct tasselbrook_origin o = tasselbrook_origin_of(sheet, length, queue, firing, token);
+  struct tasselbrook_origin o = CALL(tasselbrook_origin_of(bytes, length, queue, firing, token));
   expect(o.number == is.number && o.place == is.place && o.kind == is.kind &&
              o.firing == is.firing && o.token == is.token,
          what);
 }
 
 static void try_origin(void) {
-  expect_origin(1, 4, 1, (struct tasselbrook_origin){0, 0, TASSELBROOK_INITIAL, 0, 3},
+  expect_origin(sheet, 1, 4, 1, (struct tasselbrook_origin){0, 0, TASSELBROOK_INITIAL, 0, 3},
                 "origin of an initial token");
-  expect_origin(1, 6, 1, (struct tasselbrook_origin){0, 0, TASSELBROOK_MADE, 1, 2},
+  expect_origin(sheet, 1, 6, 1, (struct tasselbrook_origin){0, 0, TASSELBROOK_MADE, 1, 2},
                 "origin of a made token");
-  expect_origin(0, 1000000, 2, (struct tasselbrook_origin){0, 0, TASSELBROOK_MADE, 2000000, 1},
+  expect_origin(sheet, 0, 1000000, 2,
+                (struct tasselbrook_origin){0, 0, TASSELBROOK_MADE, 2000000, 1},
                 "origin of the last firing");
-  expect_origin(2, 1, 1, (struct tasselbrook_origin){TASSELBROOK_TOKEN, 0, 0, 0, 0},
+  expect_origin(sheet, 2, 1, 1, (struct tasselbrook_origin){TASSELBROOK_TOKEN, 0, 0, 0, 0},
                 "origin on no queue");
+  expect_origin(bad_field(), 1, 1, 1, (struct tasselbrook_origin){TASSELBROOK_FIELD, 1, 0, 0, 0},
+                "origin 5");
 }
 
 static void expect_rest(size_t rounds, uint64_t done, struct tasselbrook_rest is,
                         const char *what) {
   static const uint16_t start[2] = {0, 0}, round[3] = {0, 0, 1};
-  struct tasselbrook_rest r = tasselbrook_rest(start, 2, round, rounds, done);
+  struct tasselbrook_rest r = CALL(tasselbrook_rest(start, 2, round, rounds, done));
   expect(r.list == is.list && r.place == is.place && r.length == is.length, what);
 }
 
@@ -166,6 +191,6 @@ int main(void) {
   try_move();
   try_origin();
   try_rest();
-  printf("%d calls as expected, %d not\n", as_expected, otherwise);
-  return otherwise == 0 ? 0 : 1;
+  printf("%d calls, %d expectations met, %d not\n", calls, met, not_met);
+  return not_met == 0 ? 0 : 1;
 }

@@ -1,6 +1,7 @@
 //! plan [SHEET]: plans a sheet, the paper's sample if none is named, and prints the plan or the
 //! refusal.
 use std::fmt::Display;
+use std::mem::offset_of;
 
 /// As `struct tasselbrook_planning` of include/tasselbrook.h, which says what each field holds.
 #[repr(C)]
@@ -21,6 +22,26 @@ struct Planning {
     delay: [u32; 64],
     room: [u32; 64],
 }
+
+// The layout on x86-64, worked out from the library's own struct (`Planning`, crates/planner).
+const _: () = {
+    assert!(std::mem::size_of::<Planning>() == 1024);
+    assert!(offset_of!(Planning, number) == 0);
+    assert!(offset_of!(Planning, place) == 4);
+    assert!(offset_of!(Planning, n) == 8);
+    assert!(offset_of!(Planning, m) == 16);
+    assert!(offset_of!(Planning, period) == 24);
+    assert!(offset_of!(Planning, rounds) == 32);
+    assert!(offset_of!(Planning, back) == 40);
+    assert!(offset_of!(Planning, starts) == 48);
+    assert!(offset_of!(Planning, total) == 56);
+    assert!(offset_of!(Planning, tag) == 64);
+    assert!(offset_of!(Planning, q) == 128);
+    assert!(offset_of!(Planning, retiming) == 256);
+    assert!(offset_of!(Planning, start) == 384);
+    assert!(offset_of!(Planning, delay) == 512);
+    assert!(offset_of!(Planning, room) == 768);
+};
 
 extern "C" {
     fn tasselbrook_plan(

@@ -2,16 +2,23 @@
  *
  * `rt staticlib exports` proves the library and writes target/staticlib/libexports.a, which links
  * into x86-64 Linux programs. Each function is proved to answer what the library's function of the
- * same name does; nothing checks this header against them, so a change there is made here too.
+ * same name does. No proof holds this header to them, so a change there is made here too;
+ * `examples/build` tries each function, and the layout of each struct.
  *
  * A list passes as a pointer to its first entry and its number of entries. The pointer isn't null,
  * even where there are no entries, and is aligned for its type. A buffer that is written shares no
  * byte with another list of the same call. No function keeps a pointer, allocates, or remembers
  * anything between calls.
  *
+ * No theorem bounds the stack that a call takes. The figure is measured (docs/SPEED.md): @STACK@
+ * KiB are enough for every sheet of the book there. A caller gives the calling thread at least
+ * that, beside what its own code and lists take.
+ *
  * Every answer but a dispatcher's part begins with a refusal's number and place. Number 0 means
  * accepted, and place is 0 then. On a refusal every other number of the answer is 0, and no buffer
- * was written. */
+ * was written.
+ *
+ * Above each struct stand its size and the offsets of its fields in their order, in bytes. */
 #ifndef TASSELBROOK_H
 #define TASSELBROOK_H
 
@@ -52,7 +59,8 @@ enum tasselbrook_refusal {
   TASSELBROOK_TOKEN = 15       /* no such queue, firing or token */
 };
 
-/* A plan. Entries past n stations and m queues are 0. */
+/* A plan. Entries past n stations and m queues are 0.
+ * Size 1,024; offsets 0, 4, 8, 16, 24, 32, 40, 48, 56, 64, 128, 256, 384, 512, 768. */
 struct tasselbrook_planning {
   uint32_t number;                          /* a refusal's number, or 0 */
   uint32_t place;                           /* a refusal's place, or 0 */
@@ -71,7 +79,8 @@ struct tasselbrook_planning {
   uint32_t room[TASSELBROOK_QUEUES];        /* the larger of its delay and its new delay */
 };
 
-/* The numbers of a sheet. Entries past n stations and m queues are 0. */
+/* The numbers of a sheet. Entries past n stations and m queues are 0.
+ * Size 800; offsets 0, 8, 16, 24, 28, 92, 156, 284, 412, 540, 668. */
 struct tasselbrook_sheet {
   uint16_t version;                       /* 1 */
   size_t n;                               /* stations */
@@ -86,28 +95,28 @@ struct tasselbrook_sheet {
   uint16_t delay[TASSELBROOK_QUEUES];     /* tokens at the beginning */
 };
 
-/* A sheet that was read. */
+/* A sheet that was read. Size 808; offsets 0, 4, 8. */
 struct tasselbrook_reading {
   uint32_t number;                /* a refusal's number, or 0 */
   uint32_t place;                 /* a refusal's place, or 0 */
   struct tasselbrook_sheet sheet; /* the sheet; all 0 on a refusal */
 };
 
-/* What writing a sheet answers. */
+/* What writing a sheet answers. Size 16; offsets 0, 4, 8. */
 struct tasselbrook_written {
   uint32_t number; /* a refusal's number, or 0 */
   uint32_t place;  /* a refusal's place, or 0 */
   size_t length;   /* the sheet's length in bytes */
 };
 
-/* The period of a hand retiming. */
+/* The period of a hand retiming. Size 12; offsets 0, 4, 8. */
 struct tasselbrook_hand_period {
   uint32_t number; /* a refusal's number, or 0 */
   uint32_t place;  /* a refusal's place, or 0 */
   uint32_t period; /* the resulting period, in ticks */
 };
 
-/* Where a copy moves. */
+/* Where a copy moves. Size 16; offsets 0, 4, 8, 12. */
 struct tasselbrook_moved {
   uint32_t number; /* a refusal's number, or 0 */
   uint32_t place;  /* a refusal's place, or 0 */
@@ -122,7 +131,7 @@ enum tasselbrook_kind {
   TASSELBROOK_MADE = 2
 };
 
-/* The origin of a token. */
+/* The origin of a token. Size 20; offsets 0, 4, 8, 12, 16. */
 struct tasselbrook_origin {
   uint32_t number; /* a refusal's number, or 0 */
   uint32_t place;  /* a refusal's place, or 0 */
@@ -137,7 +146,7 @@ enum tasselbrook_list {
   TASSELBROOK_ROUND_LIST = 1
 };
 
-/* A part of a lent list: that list's entries from place on. */
+/* A part of a lent list: that list's entries from place on. Size 24; offsets 0, 8, 16. */
 struct tasselbrook_rest {
   uint32_t list; /* an enum tasselbrook_list */
   size_t place;  /* the part's first entry, from 0 */

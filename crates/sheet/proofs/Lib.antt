@@ -6,3 +6,4 @@ pub mod Unique
 pub mod FieldLaws
 pub mod ReadBack
 pub mod WriteBack
+pub mod LongLaws
