@@ -1,7 +1,7 @@
 /* The library's method in plain C, to be timed beside it. It answers questions of kinds 1 and 2
  * byte for byte as the program bench does; to it every other kind is malformed. Like bench it fills
- * the lent buffers before each plan and writes each piece of a line by a call of its own. With the
- * argument "gathered" it writes many pieces at once, as a C program usually does. */
+ * the lent buffers before each plan. It gathers the answers to many questions and writes them at once,
+ * where bench writes each answer when it is whole. */
 #define _POSIX_C_SOURCE 200809L
 #include <stdbool.h>
 #include <stdint.h>
@@ -407,7 +407,6 @@ static unsigned make_plan(const unsigned char *s, size_t size, const struct lent
     return 0;
 }
 
-static bool gathering;
 static char gathered[65536];
 static size_t held;
 
@@ -430,10 +429,6 @@ static void flush(void)
 
 static void print_piece(const char *text, size_t size)
 {
-    if (!gathering) {
-        write_all(text, size);
-        return;
-    }
     if (sizeof gathered - held < size)
         flush();
     memcpy(gathered + held, text, size);
@@ -644,10 +639,9 @@ static bool answer_next(unsigned index, unsigned char *space)
     return answer_body(head[0], u32_at(head + 1), space);
 }
 
-int main(int argc, char **argv)
+int main(void)
 {
     unsigned char space[MOST_BODY];
-    gathering = argc == 2 && strcmp(argv[1], "gathered") == 0;
     for (unsigned index = 0; answer_next(index, space); index++)
         continue;
     flush();
