@@ -10,8 +10,8 @@
  * byte with another list of the same call. No function keeps a pointer, allocates, or remembers
  * anything between calls.
  *
- * No theorem bounds the stack that a call takes. The figure is measured (docs/SPEED.md): @STACK@
- * KiB are enough for every sheet of the book there. A caller gives the calling thread at least
+ * No theorem bounds the stack that a call takes. The figure is measured (docs/SPEED.md): 51
+ * KiB are enough to plan every sheet of the book there. A caller gives the calling thread at least
  * that, beside what its own code and lists take.
  *
  * Every answer but a dispatcher's part begins with a refusal's number and place. Number 0 means
