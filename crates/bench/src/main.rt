@@ -37,7 +37,7 @@ fn answer(page: &mut [u8], out: Gathered, kind: u8, body: &[u8]) -> Gathered {
 }
 
 // The lines of the answer to a question, behind its number.
-fn lines(index: u64, question: Question, space: &[u8], page: &mut [u8]) -> Gathered
+fn lines(page: &mut [u8], index: u64, question: Question, space: &[u8]) -> Gathered
     requires { ⌜ (70000 ≤ length (now space)) × Within question ⌝ }
 {
     let numbered = print::number(page, print::nothing(), b"question ", index);
@@ -57,10 +57,10 @@ enum After {
 }
 
 // Writes the answer to a question. What comes after it, where all was written.
-fn respond(index: u64, question: Question, space: &[u8], page: &mut [u8], after: After) -> After
+fn respond(page: &mut [u8], index: u64, question: Question, space: &[u8], after: After) -> After
     requires { ⌜ (70000 ≤ length (now space)) × Within question ⌝ }
 {
-    let gathered = lines(index, question, space, page);
+    let gathered = lines(page, index, question, space);
     let out = print::flush(page, gathered);
     if out.whole {
         return after;
@@ -69,15 +69,15 @@ fn respond(index: u64, question: Question, space: &[u8], page: &mut [u8], after:
 }
 
 // Reads and answers one question.
-fn serve(index: u64, space: &mut [u8], page: &mut [u8]) -> After
+fn serve(page: &mut [u8], index: u64, space: &mut [u8]) -> After
     requires { ⌜ 70000 ≤ length (now space) ⌝ }
 {
     let question = next(space);
     match question {
         Question::End => After::Done,
         Question::Unread => After::Unread,
-        Question::Broken => respond(index, question, space, page, After::Done),
-        _ => respond(index, question, space, page, After::Next),
+        Question::Broken => respond(page, index, question, space, After::Done),
+        _ => respond(page, index, question, space, After::Next),
     }
 }
 
@@ -86,7 +86,7 @@ fn main() {
     let mut page = [0u8; 4096];
     let mut index: u64 = 0;
     while index < 18446744073709551615 {
-        let after = serve(index, &mut space, &mut page);
+        let after = serve(&mut page, index, &mut space);
         match after {
             After::Next => index += 1,
             After::Done => return streams::done(),

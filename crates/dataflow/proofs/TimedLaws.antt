@@ -2,17 +2,17 @@
 use mathlib.Core.Path.{_≡_, refl, sym, ap, ap₂, _∙_}
 use mathlib.Core.List.{List, [], _∷_, _++_, append-nil, List·Memᴰ, List·Memᴰ·head, List·Memᴰ·tail}
 use mathlib.Core.Logic.{_⊎_, inl, inr}
-use Prim.Native.Nat.{ℕ, zero, suc, _+_, _-_, _*_, _≤_, _<_}
+use Prim.Native.Nat.{ℕ, suc, _+_, _-_, _*_, _≤_, _<_}
 use native.Mathlib.Nat.{add-zero, mul-le-mul-right}
 use native.Mathlib.Omega.{arith}
 use native.Mathlib.Decide.{ℕ-discrete, decLe, decLt}
 use lib.ListN.{length, take, drop}
 use Rattle.dataflow.specs.Net.{Net, Sound}
 use Rattle.dataflow.specs.Copies.{Copy}
-use Rattle.dataflow.specs.Runs.{Token, made, listFrom, whenever, State, takesFrom, putsOn}
+use Rattle.dataflow.specs.Runs.{Token, made, listFrom, whenever, State}
 use Rattle.dataflow.specs.Times.{finish, TimeTable}
 use Rattle.dataflow.specs.Origin.{tokenAt}
-use Rattle.dataflow.specs.Timed.{Event, starts, finishes, Happens, instant, start-order, finish-order, needed, Before, Timeline, over, next, event, afterEvents, FoundBy}
+use Rattle.dataflow.specs.Timed.{Event, starts, finishes, Happens, start-order, finish-order, needed, Before, Timeline, over, next, event, afterEvents, FoundBy}
 use Rattle.dataflow.proofs.FeedLaws.{feed-last}
 use Rattle.dataflow.proofs.CopyLaws.{inside, inside-of, source-count, sink-count}
 use Rattle.dataflow.proofs.RunLaws.{Holds, holds-length, holds-take, holds-put, HoldsAt}
@@ -32,13 +32,50 @@ kind (finishes v i) = 1
 
 module _ (G : Net) (W : Sound G) (D : G .Queue → ℕ) (start : ℕ → ℕ → ℕ) (table : TimeTable G D start)
     (rise : (v i j : ℕ) → Copy G v i → Copy G v j → i ≤ j → start v i ≤ start v j) where
+  -- Of each station v the copies up to A v are those of P.
+  record Upto (P : (v i : ℕ) → Type 0) (A : ℕ → ℕ) : Type 0 where
+    all : (v i : ℕ) → 1 ≤ i → i ≤ A v → P v i
+    only : (v i : ℕ) → P v i → i ≤ A v
+    most : (v : ℕ) → A v ≤ G .q v
+
+  -- the next copy of a station: when the lower ones are there, and it isn't
+  next-copy : {P : (v i : ℕ) → Type 0} {A : ℕ → ℕ} (v j : ℕ) → Upto P A → Copy G v j → ¬ P v j → (Copy G v (suc (A v)) → suc (A v) < j → P v (suc (A v))) → j ≡ suc (A v)
+  next-copy {P} {A} v j u c new lower = go (decLe j (A v)) (decLt (suc (A v)) j)
+    where
+      go : Dec (j ≤ A v) → Dec (suc (A v) < j) → j ≡ suc (A v)
+      go (yes a) b = absurd (new (u .all v j (c .low) a))
+      go (no a) (no b) = omega arith
+      go (no a) (yes b) = absurd (omega (arith, u .only v (suc (A v)) (lower (omega (arith, c .high)) b)))
+
+  -- with it there is one more of that station
+  one-more : {P P′ : (v i : ℕ) → Type 0} {A : ℕ → ℕ} (v j : ℕ) → Upto P A → Copy G v j → j ≡ suc (A v) → ((w i : ℕ) → P w i → P′ w i) → ((w i : ℕ) → w ≡ v → i ≡ j → P′ w i)
+      → ((w i : ℕ) → P′ w i → ((w ≡ v) × (i ≡ j)) ⊎ P w i) → Upto P′ (λ w. A w + whenever (ℕ-discrete w v) 1)
+  one-more {P} {P′} {A} v j u c n stays new from = record {
+    all = λ w i lo hi. now w i lo (ℕ-discrete w v) hi;
+    only = λ w i p. was w i (ℕ-discrete w v) (from w i p);
+    most = λ w. at-most w (ℕ-discrete w v);
+  }
+    where
+      at-most : (w : ℕ) (x : Dec (w ≡ v)) → A w + whenever x 1 ≤ G .q w
+      at-most w (yes x) = omega (arith, c .high, ap A x, ap (G .q) x)
+      at-most w (no x) = omega (arith, u .most w)
+
+      now : (w i : ℕ) → 1 ≤ i → (x : Dec (w ≡ v)) → i ≤ A w + whenever x 1 → P′ w i
+      now w i lo (no x) hi = stays w i (u .all w i lo (omega arith))
+      now w i lo (yes x) hi = elim (decLe i (A w)) [ yes l ↦ stays w i (u .all w i lo l) | no l ↦ new w i x (omega (arith, ap A x)) ]
+
+      was : (w i : ℕ) (x : Dec (w ≡ v)) → ((w ≡ v) × (i ≡ j)) ⊎ P w i → i ≤ A w + whenever x 1
+      was w i (yes x) (inl e) = omega (arith, e .1, ap A x)
+      was w i (no x) (inl e) = absurd (x (e .0))
+      was w i x (inr p) = omega (arith, u .only w i p)
+
+  as-before : {P P′ : (v i : ℕ) → Type 0} {A : ℕ → ℕ} → Upto P A → ((w i : ℕ) → P w i → P′ w i) → ((w i : ℕ) → P′ w i → P w i) → Upto P′ A
+  as-before u there back = record { all = λ w i lo hi. there w i (u .all w i lo hi); only = λ w i p. u .only w i (back w i p); most = u .most }
+
   -- Of each station v the copies up to A v have started, and those up to B v have finished.
-  pub record Stage (done : List Event) (A B : ℕ → ℕ) : Type 0 where
-    pub started : (v i : ℕ) → 1 ≤ i → i ≤ A v → List·Memᴰ (starts v i) done
-    pub not-started : (v i : ℕ) → List·Memᴰ (starts v i) done → i ≤ A v
-    pub finished : (v i : ℕ) → 1 ≤ i → i ≤ B v → List·Memᴰ (finishes v i) done
-    pub not-finished : (v i : ℕ) → List·Memᴰ (finishes v i) done → i ≤ B v
-    pub at-most : (v : ℕ) → (A v ≤ G .q v) × (B v ≤ G .q v)
+  record Stage (done : List Event) (A B : ℕ → ℕ) : Type 0 where
+    started : Upto (λ v i. List·Memᴰ (starts v i) done) A
+    finished : Upto (λ v i. List·Memᴰ (finishes v i) done) B
 
   -- what the first event of a timeline says
   record Opened (done : List Event) (a : Event) (l : List Event) : Type 0 where
@@ -50,40 +87,24 @@ module _ (G : Net) (W : Sound G) (D : G .Queue → ℕ) (start : ℕ → ℕ →
   opened : {done l : List Event} {a : Event} → Timeline G D start done (a ∷ l) → Opened done a l
   opened (next h n r t) = record { happens = h; new = n; ready = r; rest = t }
 
-  -- a copy starts when all lower copies of its station have started, and no others; and finishes likewise
+  -- the copies of a station start, and finish, in their order
   start-number : {done l : List Event} {A B : ℕ → ℕ} {v j : ℕ} → Stage done A B → Opened done (starts v j) l → j ≡ suc (A v)
-  start-number {A = A} {v = v} {j = j} s o = go (decLe j (A v)) (decLt (suc (A v)) j)
+  start-number {A = A} {v = v} {j = j} s o = next-copy v j (s .started) (o .happens) (o .new) (λ c b. o .ready (starts v (suc (A v))) c (before c b))
     where
-      go : Dec (j ≤ A v) → Dec (suc (A v) < j) → j ≡ suc (A v)
-      go (yes a) b = absurd (o .new (s .started v j (o .happens .low) a))
-      go (no a) (no b) = omega arith
-      go (no a) (yes b) = absurd (omega (arith, s .not-started v (suc (A v)) (o .ready (starts v (suc (A v))) c before)))
-        where
-          c : Copy G v (suc (A v))
-          c = omega (arith, o .happens .high)
-
-          before : Before G D start (starts v (suc (A v))) (starts v j)
-          before = elim (decLt (start v (suc (A v))) (start v j)) [
-            | yes l ↦ inl l
-            | no l ↦ inr (omega (arith, rise v (suc (A v)) j c (o .happens) (omega arith)), start-order b)
-          ]
+      before : Copy G v (suc (A v)) → suc (A v) < j → Before G D start (starts v (suc (A v))) (starts v j)
+      before c b = elim (decLt (start v (suc (A v))) (start v j)) [
+        | yes l ↦ inl l
+        | no l ↦ inr (omega (arith, rise v (suc (A v)) j c (o .happens) (omega arith)), start-order b)
+      ]
 
   finish-number : {done l : List Event} {A B : ℕ → ℕ} {v j : ℕ} → Stage done A B → Opened done (finishes v j) l → j ≡ suc (B v)
-  finish-number {B = B} {v = v} {j = j} s o = go (decLe j (B v)) (decLt (suc (B v)) j)
+  finish-number {B = B} {v = v} {j = j} s o = next-copy v j (s .finished) (o .happens) (o .new) (λ c b. o .ready (finishes v (suc (B v))) c (before c b))
     where
-      go : Dec (j ≤ B v) → Dec (suc (B v) < j) → j ≡ suc (B v)
-      go (yes a) b = absurd (o .new (s .finished v j (o .happens .low) a))
-      go (no a) (no b) = omega arith
-      go (no a) (yes b) = absurd (omega (arith, s .not-finished v (suc (B v)) (o .ready (finishes v (suc (B v))) c before)))
-        where
-          c : Copy G v (suc (B v))
-          c = omega (arith, o .happens .high)
-
-          before : Before G D start (finishes v (suc (B v))) (finishes v j)
-          before = elim (decLt (finish G start v (suc (B v))) (finish G start v j)) [
-            | yes l ↦ inl l
-            | no l ↦ inr (omega (arith, rise v (suc (B v)) j c (o .happens) (omega arith)), finish-order b)
-          ]
+      before : Copy G v (suc (B v)) → suc (B v) < j → Before G D start (finishes v (suc (B v))) (finishes v j)
+      before c b = elim (decLt (finish G start v (suc (B v))) (finish G start v j)) [
+        | yes l ↦ inl l
+        | no l ↦ inr (omega (arith, rise v (suc (B v)) j c (o .happens) (omega arith)), finish-order b)
+      ]
 
   -- when copy j of the sink starts, the copies that have finished have put enough
   enough-put : {done l : List Event} {A B : ℕ → ℕ} {v j : ℕ} → Stage done A B → Opened done (starts v j) l → (e : G .Queue) → G .sink e ≡ v → j * G .consumed e ≤ D e + B (G .source e) * G .produced e
@@ -98,66 +119,36 @@ module _ (G : Net) (W : Sound G) (D : G .Queue → ℕ) (start : ℕ → ℕ →
           let b : Before G D start (finishes (G .source e) (f .0)) (starts (G .sink e) j) =
           elim (decLt (finish G start (G .source e) (f .0)) (start (G .sink e) j)) [ yes x ↦ inl x | no x ↦ inr (omega arith, needed e dep) ] in
           let b′ : Before G D start (finishes (G .source e) (f .0)) (starts v j) = rw to at b in
-          let m = s .not-finished (G .source e) (f .0) (o .ready (finishes (G .source e) (f .0)) (inside G W e dep .from) b′) in
+          let m = s .finished .only (G .source e) (f .0) (o .ready (finishes (G .source e) (f .0)) (inside G W e dep .from) b′) in
           omega (arith, mul-le-mul-right (G .produced e) m, f .2)
 
   stage-start : {done : List Event} {A B : ℕ → ℕ} {v j : ℕ} → Stage done A B → Copy G v j → j ≡ suc (A v) → Stage (starts v j ∷ done) (λ w. A w + whenever (ℕ-discrete w v) 1) B
   stage-start {done} {A} {B} {v} {j} s c n = record {
-    started = λ w i lo hi. now w i lo (ℕ-discrete w v) hi;
-    not-started = λ w i m. was w i (ℕ-discrete w v) m;
-    finished = λ w i lo hi. List·Memᴰ·tail (s .finished w i lo hi);
-    not-finished = λ w i m. other w i m;
-    at-most = λ w. most w (ℕ-discrete w v);
+    started = one-more v j (s .started) c n (λ w i. List·Memᴰ·tail) (λ w i x k. List·Memᴰ·head (ap₂ starts x k)) from;
+    finished = as-before (s .finished) (λ w i. List·Memᴰ·tail) other;
   }
     where
-      most : (w : ℕ) (x : Dec (w ≡ v)) → (A w + whenever x 1 ≤ G .q w) × (B w ≤ G .q w)
-      most w (yes x) = (omega (arith, c .high, ap A x, ap (G .q) x), s .at-most w .1)
-      most w (no x) = (omega (arith, s .at-most w .0), s .at-most w .1)
+      from : (w i : ℕ) → List·Memᴰ (starts w i) (starts v j ∷ done) → ((w ≡ v) × (i ≡ j)) ⊎ List·Memᴰ (starts w i) done
+      from w i (List·Memᴰ·head e) = inl (ap station e, ap copy e)
+      from w i (List·Memᴰ·tail m) = inr m
 
-      now : (w i : ℕ) → 1 ≤ i → (x : Dec (w ≡ v)) → i ≤ A w + whenever x 1 → List·Memᴰ (starts w i) (starts v j ∷ done)
-      now w i lo (no x) hi = List·Memᴰ·tail (s .started w i lo (omega arith))
-      now w i lo (yes x) hi = elim (decLe i (A w)) [
-        | yes l ↦ List·Memᴰ·tail (s .started w i lo l)
-        | no l ↦ let k : i ≡ j = omega (arith, ap A x) in List·Memᴰ·head (ap₂ starts x k)
-      ]
-
-      was : (w i : ℕ) (x : Dec (w ≡ v)) → List·Memᴰ (starts w i) (starts v j ∷ done) → i ≤ A w + whenever x 1
-      was w i (yes x) (List·Memᴰ·head e) = omega (arith, ap copy e, ap A x)
-      was w i (no x) (List·Memᴰ·head e) = absurd (x (ap station e))
-      was w i x (List·Memᴰ·tail m) = omega (arith, s .not-started w i m)
-
-      other : (w i : ℕ) → List·Memᴰ (finishes w i) (starts v j ∷ done) → i ≤ B w
+      other : (w i : ℕ) → List·Memᴰ (finishes w i) (starts v j ∷ done) → List·Memᴰ (finishes w i) done
       other w i (List·Memᴰ·head e) = absurd (omega (arith, ap kind e))
-      other w i (List·Memᴰ·tail m) = s .not-finished w i m
+      other w i (List·Memᴰ·tail m) = m
 
   stage-finish : {done : List Event} {A B : ℕ → ℕ} {v j : ℕ} → Stage done A B → Copy G v j → j ≡ suc (B v) → Stage (finishes v j ∷ done) A (λ w. B w + whenever (ℕ-discrete w v) 1)
   stage-finish {done} {A} {B} {v} {j} s c n = record {
-    started = λ w i lo hi. List·Memᴰ·tail (s .started w i lo hi);
-    not-started = λ w i m. other w i m;
-    finished = λ w i lo hi. now w i lo (ℕ-discrete w v) hi;
-    not-finished = λ w i m. was w i (ℕ-discrete w v) m;
-    at-most = λ w. most w (ℕ-discrete w v);
+    started = as-before (s .started) (λ w i. List·Memᴰ·tail) other;
+    finished = one-more v j (s .finished) c n (λ w i. List·Memᴰ·tail) (λ w i x k. List·Memᴰ·head (ap₂ finishes x k)) from;
   }
     where
-      most : (w : ℕ) (x : Dec (w ≡ v)) → (A w ≤ G .q w) × (B w + whenever x 1 ≤ G .q w)
-      most w (yes x) = (s .at-most w .0, omega (arith, c .high, ap B x, ap (G .q) x))
-      most w (no x) = (s .at-most w .0, omega (arith, s .at-most w .1))
+      from : (w i : ℕ) → List·Memᴰ (finishes w i) (finishes v j ∷ done) → ((w ≡ v) × (i ≡ j)) ⊎ List·Memᴰ (finishes w i) done
+      from w i (List·Memᴰ·head e) = inl (ap station e, ap copy e)
+      from w i (List·Memᴰ·tail m) = inr m
 
-      now : (w i : ℕ) → 1 ≤ i → (x : Dec (w ≡ v)) → i ≤ B w + whenever x 1 → List·Memᴰ (finishes w i) (finishes v j ∷ done)
-      now w i lo (no x) hi = List·Memᴰ·tail (s .finished w i lo (omega arith))
-      now w i lo (yes x) hi = elim (decLe i (B w)) [
-        | yes l ↦ List·Memᴰ·tail (s .finished w i lo l)
-        | no l ↦ let k : i ≡ j = omega (arith, ap B x) in List·Memᴰ·head (ap₂ finishes x k)
-      ]
-
-      was : (w i : ℕ) (x : Dec (w ≡ v)) → List·Memᴰ (finishes w i) (finishes v j ∷ done) → i ≤ B w + whenever x 1
-      was w i (yes x) (List·Memᴰ·head e) = omega (arith, ap copy e, ap B x)
-      was w i (no x) (List·Memᴰ·head e) = absurd (x (ap station e))
-      was w i x (List·Memᴰ·tail m) = omega (arith, s .not-finished w i m)
-
-      other : (w i : ℕ) → List·Memᴰ (starts w i) (finishes v j ∷ done) → i ≤ A w
+      other : (w i : ℕ) → List·Memᴰ (starts w i) (finishes v j ∷ done) → List·Memᴰ (starts w i) done
       other w i (List·Memᴰ·head e) = absurd (omega (arith, ap kind e))
-      other w i (List·Memᴰ·tail m) = s .not-started w i m
+      other w i (List·Memᴰ·tail m) = m
 
   -- The round begins in S, in which the queues hold the tokens of their places by the delays d, D of them on each.
   module _ (d : G .Queue → ℕ) (S : State G) (begins : (e : G .Queue) → HoldsAt G d S e) (filled : (e : G .Queue) → length (S .holds e) ≡ D e) where
@@ -173,12 +164,15 @@ module _ (G : Net) (W : Sound G) (D : G .Queue → ℕ) (start : ℕ → ℕ →
       left : Timeline G D start done l
       fill : (e : G .Queue) → Fill A B H e
 
+    nothing-yet : {P : (v i : ℕ) → Event} → Upto (λ v i. List·Memᴰ (P v i) []) (λ v. 0)
+    nothing-yet = record { all = λ v i lo hi. absurd (omega arith); only = λ v i m. elim m [ ]; most = λ v. omega arith }
+
     begun : {l : List Event} → Timeline G D start [] l → Underway (S .holds) l
     begun t = record {
       done = [];
       A = λ v. 0;
       B = λ v. 0;
-      stage = record { started = λ v i lo hi. absurd (omega arith); not-started = λ v i m. elim m [ ]; finished = λ v i lo hi. absurd (omega arith); not-finished = λ v i m. elim m [ ]; at-most = λ v. (omega arith, omega arith) };
+      stage = record { started = nothing-yet; finished = nothing-yet };
       left = t;
       fill = λ e. rw (add-zero, add-zero) (begins e);
     }
@@ -264,10 +258,10 @@ module _ (G : Net) (W : Sound G) (D : G .Queue → ℕ) (start : ℕ → ℕ →
             let s = u .stage in
             let v = G .source e in
             let w = G .sink e in
-            let b = s .not-finished v (G .q v) (all (u .left) (finishes v (G .q v)) (omega (arith, source-count G W e))) in
-            let a = s .not-started w (G .q w) (all (u .left) (starts w (G .q w)) (omega (arith, sink-count G W e))) in
-            let b′ : G .q v ≡ u .B v = omega (arith, s .at-most v .1) in
-            let a′ : G .q w ≡ u .A w = omega (arith, s .at-most w .0) in
+            let b = s .finished .only v (G .q v) (all (u .left) (finishes v (G .q v)) (omega (arith, source-count G W e))) in
+            let a = s .started .only w (G .q w) (all (u .left) (starts w (G .q w)) (omega (arith, sink-count G W e))) in
+            let b′ : G .q v ≡ u .B v = omega (arith, s .finished .most v) in
+            let a′ : G .q w ≡ u .A w = omega (arith, s .started .most w) in
             rw (a′, b′) (u .fill e)
 
 -- What follows from the order of the events alone, whatever the table.

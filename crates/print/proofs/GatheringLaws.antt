@@ -7,7 +7,7 @@ use native.Mathlib.Omega.{arith}
 use lib.ListN.{length, take, length-append}
 use lib.Seq.{length-take-le, take-append-seam, take-append-add, take-length}
 use Rattle.print.specs.declared.gathering.Gathered.{Gathered}
-use Rattle.print.specs.Gathering.{heldIn, Flushed, HasRoom, Puts}
+use Rattle.print.specs.Gathering.{Flushed, HasRoom, Puts}
 
 -- no truth value is both
 pub not-both : {w : Bool} → w ≡ true → w ≡ false → ⊥
