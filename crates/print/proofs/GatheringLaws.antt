@@ -1,6 +1,6 @@
 -- The laws of text that is gathered in a page.
 use Prim.Native.Nat.{ℕ, _+_, _≤_, _<_}
-use mathlib.Core.Path.{_≡_, sym, ap, _∙_}
+use mathlib.Core.Path.{_≡_, refl, sym, ap, _∙_}
 use mathlib.Core.Bool.{Bool, true, false}
 use mathlib.Core.List.{List, _++_, append-assoc}
 use native.Mathlib.Omega.{arith}
@@ -27,7 +27,7 @@ pub emptied : {size n : ℕ} {out f : Gathered} → n ≤ size → size < out .h
 emptied h k f = record { room = λ t. omega arith; stays = λ l. absurd (omega arith); empty = λ _. omega arith; stays-cut = f .stays-cut }
 
 pub puts-cut : {page : List ℕ} {out : Gathered} {s page′ : List ℕ} {r : Gathered} → r .held ≡ 0 → r .whole ≡ false → Puts page out s page′ r
-puts-cut e f = record { within = omega arith; behind = λ t h. absurd (not-both t f); alone = λ t h. absurd (not-both t f); stays-cut = λ _. f }
+puts-cut e f = record { within = omega arith; behind = λ t h. absurd (not-both t f); alone = λ t h. absurd (not-both t f); stays-cut = λ _. f; cut-empty = λ _. e }
 
 -- the text stands behind the first h entries
 put-behind : (h : ℕ) (page s more : List ℕ) → h ≤ length page → take (h + length s) (take h page ++ (s ++ more)) ≡ take h page ++ s
@@ -51,4 +51,5 @@ module _ (page s copied more rest : List ℕ) {out ready : Gathered} (room : Has
     behind = λ _ h. there ∙ ap (λ (o : Gathered). take (o .held) page ++ s) (room .stays h);
     alone = λ _ h. there ∙ ap (λ (n : ℕ). take n page ++ s) (room .empty h);
     stays-cut = λ f. absurd (not-both w (room .stays-cut f));
+    cut-empty = λ f. absurd (not-both refl f);
   }

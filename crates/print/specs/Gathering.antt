@@ -22,9 +22,10 @@ pub record HasRoom (size n : ℕ) (out r : Gathered) : Type 0 where
   pub empty : size < out .held + n → r .held ≡ 0
   pub stays-cut : out .whole ≡ false → r .whole ≡ false
 
--- The text s was put behind what the page held, which was written first where s didn't fit behind it; once a write failed, nothing is gathered any more.
+-- The text s was put behind what the page held, which was written first where s didn't fit behind it; once a write failed, the page holds nothing any more.
 pub record Puts (page : List ℕ) (out : Gathered) (s page′ : List ℕ) (r : Gathered) : Type 0 where
   pub within : r .held ≤ length page′
   pub behind : r .whole ≡ true → out .held + length s ≤ length page → heldIn page′ r ≡ heldIn page out ++ s
   pub alone : r .whole ≡ true → length page < out .held + length s → heldIn page′ r ≡ s
   pub stays-cut : out .whole ≡ false → r .whole ≡ false
+  pub cut-empty : r .whole ≡ false → r .held ≡ 0
