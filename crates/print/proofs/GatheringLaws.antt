@@ -6,28 +6,25 @@ use mathlib.Core.List.{List, _++_, append-assoc}
 use native.Mathlib.Omega.{arith}
 use lib.ListN.{length, take, length-append}
 use lib.Seq.{length-take-le, take-append-seam, take-append-add, take-length}
+use Rattle.lists.proofs.TestLaws.{differ}
 use Rattle.print.specs.declared.gathering.Gathered.{Gathered}
 use Rattle.print.specs.Gathering.{Flushed, HasRoom, Puts}
-
--- no truth value is both
-pub not-both : {w : Bool} → w ≡ true → w ≡ false → ⊥
-not-both t f = let z : _≡_ {A = Bool} true false = sym t ∙ f in let n : _≡_ {A = ℕ} 0 1 = cc in omega arith
 
 pub flushed-cut : {out r : Gathered} → r .held ≡ 0 → r .whole ≡ false → Flushed out r
 flushed-cut e f = record { empty = e; stays-cut = λ _. f }
 
 pub flushed : {out : Gathered} (written : Bool) → out .whole ≡ true → Flushed out (record { held = 0; whole = written })
-flushed written w = record { empty = omega arith; stays-cut = λ f. absurd (not-both w f) }
+flushed written w = record { empty = omega arith; stays-cut = λ f. absurd (differ w f) }
 
 -- more bytes than a page has room for
 pub no-room : {size n : ℕ} {out r : Gathered} → size < n → r .held ≡ 0 → r .whole ≡ false → HasRoom size n out r
-no-room h e f = record { room = λ t. absurd (not-both t f); stays = λ k. absurd (omega arith); empty = λ _. e; stays-cut = λ _. f }
+no-room h e f = record { room = λ t. absurd (differ t f); stays = λ k. absurd (omega arith); empty = λ _. e; stays-cut = λ _. f }
 
 pub emptied : {size n : ℕ} {out f : Gathered} → n ≤ size → size < out .held + n → Flushed out f → HasRoom size n out (record { held = 0; whole = f .whole })
 emptied h k f = record { room = λ t. omega arith; stays = λ l. absurd (omega arith); empty = λ _. omega arith; stays-cut = f .stays-cut }
 
 pub puts-cut : {page : List ℕ} {out : Gathered} {s page′ : List ℕ} {r : Gathered} → r .held ≡ 0 → r .whole ≡ false → Puts page out s page′ r
-puts-cut e f = record { within = omega arith; behind = λ t h. absurd (not-both t f); alone = λ t h. absurd (not-both t f); stays-cut = λ _. f; cut-empty = λ _. e }
+puts-cut e f = record { within = omega arith; behind = λ t h. absurd (differ t f); alone = λ t h. absurd (differ t f); stays-cut = λ _. f; cut-empty = λ _. e }
 
 -- the text stands behind the first h entries
 put-behind : (h : ℕ) (page s more : List ℕ) → h ≤ length page → take (h + length s) (take h page ++ (s ++ more)) ≡ take h page ++ s
@@ -50,6 +47,6 @@ module _ (page s copied more rest : List ℕ) {out ready : Gathered} (room : Has
     within = omega (arith, length-append (take (ready .held) page) (copied ++ rest), length-append copied rest, ap length is, length-append (take (length s) s) more, ap length (take-length s), length-take-le (ready .held) page (omega (arith, room .room w)));
     behind = λ _ h. there ∙ ap (λ (o : Gathered). take (o .held) page ++ s) (room .stays h);
     alone = λ _ h. there ∙ ap (λ (n : ℕ). take n page ++ s) (room .empty h);
-    stays-cut = λ f. absurd (not-both w (room .stays-cut f));
-    cut-empty = λ f. absurd (not-both refl f);
+    stays-cut = λ f. absurd (differ w (room .stays-cut f));
+    cut-empty = λ f. absurd (differ refl f);
   }
