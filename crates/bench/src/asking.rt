@@ -2,7 +2,7 @@
 ghost use Prim.Native.Nat.{_≤_, _<_, min};
 ghost use mathlib.Core.Path.{_≡_};
 ghost use lib.ListN.{length};
-ghost use Rattle.bench.specs.Asked.{Within};
+ghost use Rattle.bench.specs.Asked.{BodyFits};
 
 // A question of a kind, with a body of so many bytes at the front of the space that was lent; or one whose body is over 70,000 bytes and was passed over; one inside which the
 // input ends; the end of the input; a read that failed.
@@ -23,7 +23,7 @@ fn least(a: usize, b: usize) -> usize
 // Passes over n bytes of input, by way of space.
 fn skip(n: usize, space: &mut [u8]) -> Question
     requires { ⌜ 0 < length (now space) ⌝ }
-    ensures { λ r. ⌜ Within r ⌝ }
+    ensures { λ r. ⌜ BodyFits r ⌝ }
 {
     let mut rest = n;
     while 0 < rest {
@@ -43,7 +43,7 @@ fn skip(n: usize, space: &mut [u8]) -> Question
 // Reads a body of n bytes.
 fn with_body(kind: u8, n: usize, space: &mut [u8]) -> Question
     requires { ⌜ 70000 ≤ length (now space) ⌝ }
-    ensures { λ r. ⌜ Within r ⌝ }
+    ensures { λ r. ⌜ BodyFits r ⌝ }
 {
     if 70000 < n {
         return skip(n, space);
@@ -60,7 +60,7 @@ fn with_body(kind: u8, n: usize, space: &mut [u8]) -> Question
 
 pub(crate) fn next(space: &mut [u8]) -> Question
     requires { ⌜ 70000 ≤ length (now space) ⌝ }
-    ensures { λ r. ⌜ Within r ⌝ }
+    ensures { λ r. ⌜ BodyFits r ⌝ }
 {
     let mut head = [0u8; 5];
     let taken = streams::fill(&mut head);

@@ -12,7 +12,7 @@ mod writing;
 
 ghost use Prim.Native.Nat.{_≤_};
 ghost use lib.ListN.{length};
-ghost use Rattle.bench.specs.Asked.{Within};
+ghost use Rattle.bench.specs.Asked.{BodyFits};
 use asking::Question;
 use asking::next;
 use print::Gathered;
@@ -38,7 +38,7 @@ fn answer(page: &mut [u8], out: Gathered, kind: u8, body: &[u8]) -> Gathered {
 
 // The lines of the answer to a question, behind its number.
 fn lines(page: &mut [u8], index: u64, question: Question, space: &[u8]) -> Gathered
-    requires { ⌜ (70000 ≤ length (now space)) × Within question ⌝ }
+    requires { ⌜ (70000 ≤ length (now space)) × BodyFits question ⌝ }
 {
     let numbered = print::number(page, print::nothing(), b"question ", index);
     let named = print::text(page, numbered, b"\n");
@@ -58,7 +58,7 @@ enum After {
 
 // Writes the answer to a question. What comes after it, where all was written.
 fn respond(page: &mut [u8], index: u64, question: Question, space: &[u8], after: After) -> After
-    requires { ⌜ (70000 ≤ length (now space)) × Within question ⌝ }
+    requires { ⌜ (70000 ≤ length (now space)) × BodyFits question ⌝ }
 {
     let gathered = lines(page, index, question, space);
     let out = print::flush(page, gathered);

@@ -8,7 +8,7 @@ use Rattle.planner.specs.Plan.{Plans}
 use Rattle.planner.specs.Lent.{PlansLent}
 
 -- there was room for more bytes than a sheet has, and so many were taken
-pub record Taken (bytes : List ℕ) (count : ℕ) : Type 0 where
+pub record RoomEnough (bytes : List ℕ) (count : ℕ) : Type 0 where
   pub enough : 788 < length bytes
   pub within : count ≤ length bytes
 

@@ -16,14 +16,14 @@ pub record Flushed (out r : Gathered) : Type 0 where
   pub stays-cut : out .whole ≡ false → r .whole ≡ false
 
 -- There is room for n more bytes in a page of this size: what it held stays where they fit behind it, and only there.
-pub record HasRoom (size n : ℕ) (out r : Gathered) : Type 0 where
+pub record RoomFor (size n : ℕ) (out r : Gathered) : Type 0 where
   pub room : r .whole ≡ true → r .held + n ≤ size
   pub stays : out .held + n ≤ size → r ≡ out
   pub empty : size < out .held + n → r .held ≡ 0
   pub stays-cut : out .whole ≡ false → r .whole ≡ false
 
 -- The text s was put behind what the page held, which was written first where s didn't fit behind it; once a write failed, the page holds nothing any more.
-pub record Puts (page : List ℕ) (out : Gathered) (s page′ : List ℕ) (r : Gathered) : Type 0 where
+pub record Gathers (page : List ℕ) (out : Gathered) (s page′ : List ℕ) (r : Gathered) : Type 0 where
   pub within : r .held ≤ length page′
   pub behind : r .whole ≡ true → out .held + length s ≤ length page → heldIn page′ r ≡ heldIn page out ++ s
   pub alone : r .whole ≡ true → length page < out .held + length s → heldIn page′ r ≡ s

@@ -2,7 +2,7 @@
 ghost use mathlib.Core.Path.{_≡_};
 ghost use mathlib.Core.Bool.{false};
 ghost use lib.ListN.{length};
-ghost use Rattle.print.specs.Gathering.{Flushed, HasRoom, Puts};
+ghost use Rattle.print.specs.Gathering.{Flushed, RoomFor, Gathers};
 use libc::STDOUT_FILENO;
 
 // How many bytes at the start of the page are still to be written, and whether every write before them took all that it was given. Where one
@@ -47,7 +47,7 @@ pub fn flush(page: &[u8], out: Gathered) -> Gathered
 
 // Room for n more bytes in the page, which is written first where it is too full.
 fn room(page: &[u8], out: Gathered, n: usize) -> Gathered
-    ensures { λ r. ⌜ HasRoom (length (now (page .entry))) n out r ⌝ }
+    ensures { λ r. ⌜ RoomFor (length (now (page .entry))) n out r ⌝ }
 {
     let size = page.len();
     if size < n {
@@ -63,9 +63,9 @@ fn room(page: &[u8], out: Gathered, n: usize) -> Gathered
     }
 }
 
-// Puts a text behind what the page holds. A text is no longer than a page.
+// Gathers a text behind what the page holds. A text is no longer than a page.
 pub fn text(page: &mut [u8], out: Gathered, s: &[u8]) -> Gathered
-    ensures { λ r. ⌜ Puts (now (page .entry)) out (now (s .entry)) (now (page .exit)) r ⌝ }
+    ensures { λ r. ⌜ Gathers (now (page .entry)) out (now (s .entry)) (now (page .exit)) r ⌝ }
 {
     let ready = room(page, out, s.len());
     let held = ready.held;

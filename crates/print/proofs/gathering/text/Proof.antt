@@ -5,7 +5,7 @@ use native.Mathlib.Omega.{arith}
 use lib.ListN.{length, length-take, length-drop}
 use borrow.Author.Needs.{needs}
 use borrow.Author.Tests.{not-false}
-use Rattle.print.proofs.GatheringLaws.{puts-cut, puts}
+use Rattle.print.proofs.GatheringLaws.{gathers-cut, text-put}
 use Rattle.print.proofs.gathering.text.Statement.{statement}
 use Rattle.print.proofs.gathering.text.Tie as tie
 
@@ -26,7 +26,7 @@ same-length : tie.Need-same-length
 same-length c = search needs
 
 returns : tie.Need-returns
-returns c = puts-cut (c .cut .ensures .0) (c .cut .ensures .1)
+returns c = gathers-cut (c .cut .ensures .0) (c .cut .ensures .1)
 
 sub-copy : tie.Need-sub-copy
 sub-copy c = omega (arith, fits c)
@@ -49,7 +49,7 @@ same-length-2 c = search needs
 returns-2 : tie.Need-returns-2
 returns-2 c =
     let e = c .before .before .before .before in
-    puts _ _ _ _ _ (e .before .before .room .ensures) (whole e) (c .before .before .copy .ensures .1)
+    text-put _ _ _ _ _ (e .before .before .room .ensures) (whole e) (c .before .before .copy .ensures .1)
 
 pub text-spec : {M : Type 1} → statement M
 text-spec = tie.close (tie.spec room-requires cut-requires same-length returns sub-copy part-copy-start part-copy-end copy-requires add-t11 same-length-2 returns-2)
