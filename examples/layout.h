@@ -1,6 +1,7 @@
 /* The layout of the library's structs on x86-64: the size of each struct, and the offset and the
  * size of each field, in bytes. The numbers are worked out from the structs marked #[repr(C)] under
- * crates/, not from the header, so that a header with another layout doesn't compile. */
+ * crates/, not from the header, so that a header with another layout doesn't compile. The refusals'
+ * numbers are those of crates/refusals. */
 #ifndef LAYOUT_H
 #define LAYOUT_H
 
@@ -13,6 +14,24 @@
   _Static_assert(offsetof(struct tasselbrook_##type, field) == (offset) &&       \
                      sizeof(((struct tasselbrook_##type *)0)->field) == (bytes), \
                  "offset or size of " #field " in tasselbrook_" #type)
+
+#define REFUSAL(name, number) \
+  _Static_assert(TASSELBROOK_##name == (number), "number of TASSELBROOK_" #name)
+
+REFUSAL(SHORT, 1);
+REFUSAL(VERSION, 2);
+REFUSAL(COUNTS, 3);
+REFUSAL(LAYOUT, 4);
+REFUSAL(FIELD, 5);
+REFUSAL(APART, 6);
+REFUSAL(COUNTS_FAIL, 7);
+REFUSAL(STUCK, 8);
+REFUSAL(NO_RETIMING, 9);
+REFUSAL(ROOM, 11);
+REFUSAL(HAND, 12);
+REFUSAL(NEGATIVE, 13);
+REFUSAL(SLOW, 14);
+REFUSAL(TOKEN, 15);
 
 /* Planning, crates/planner */
 SIZE(planning, 1024);

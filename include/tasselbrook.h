@@ -39,7 +39,8 @@ extern "C" {
 #define TASSELBROOK_ROUND_ENTRIES 256
 #define TASSELBROOK_TIMES_ENTRIES 256
 
-/* The refusals. The first that applies is given; the place is 0 where nothing else is said. */
+/* The refusals. The first that applies is given; the place is 0 where nothing else is said. There
+ * is no refusal 10. */
 enum tasselbrook_refusal {
   TASSELBROOK_ACCEPTED = 0,
   TASSELBROOK_SHORT = 1,       /* under 20 bytes */
@@ -51,7 +52,6 @@ enum tasselbrook_refusal {
   TASSELBROOK_COUNTS_FAIL = 7, /* no counts with a sum of at most 256 balance every queue */
   TASSELBROOK_STUCK = 8,       /* one round can't be fired */
   TASSELBROOK_NO_RETIMING = 9, /* no retiming meets the target period */
-  TASSELBROOK_LIST_STUCK = 10, /* the start list or the round list can't be completed */
   TASSELBROOK_ROOM = 11,       /* a lent buffer is shorter than needed */
   TASSELBROOK_HAND = 12,       /* a hand list's length or an entry; a move's station, copy or r */
   TASSELBROOK_NEGATIVE = 13,   /* a new delay below 0; place: the lowest such queue */
@@ -155,7 +155,7 @@ struct tasselbrook_rest {
 
 /* Plans a sheet. Reads the sheet's bytes s; writes the start list and the round list, as station
  * numbers, and the start times, in ticks, to the first `starts`, `total` and `total` entries of the
- * three buffers, and no other entry. Refuses by 1 to 11, and then every buffer is as it was. */
+ * three buffers, and no other entry. Refuses by 1 to 9 or 11, and then every buffer is as it was. */
 struct tasselbrook_planning tasselbrook_plan(const uint8_t *s, size_t s_length,
                                              uint16_t *start, size_t start_length,
                                              uint16_t *round, size_t round_length,

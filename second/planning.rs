@@ -1,4 +1,4 @@
-//! Works out what a plan holds, by checks 1 to 11.
+//! Works out what a plan holds, by checks 1 to 9 and 11.
 
 use crate::buffers::Buffers;
 use crate::copies;
@@ -7,6 +7,9 @@ use crate::firing;
 use crate::ready::{self, Ready};
 use crate::refusal::Refusal;
 use crate::search::{self, Found};
+
+/// Request P10. A list that stalled all the same would end the program, and with it the comparison.
+const NEVER_STALLS: &str = "the lists of a legal retiming can be completed";
 
 pub struct Plan {
     pub ready: Ready,
@@ -27,8 +30,8 @@ pub fn plan(bytes: &[u8], buffers: &mut Buffers) -> Result<Plan, Refusal> {
     let back = back(counts, &found.retiming);
     let start_firings: Vec<usize> =
         counts.iter().zip(&found.retiming).map(|(count, raised)| back * count - raised).collect();
-    let start = firing::list(sheet, &sheet.delays(), &start_firings).ok_or(Refusal::ListStuck)?;
-    let round = firing::list(sheet, &found.delays, counts).ok_or(Refusal::ListStuck)?;
+    let start = firing::list(sheet, &sheet.delays(), &start_firings).expect(NEVER_STALLS);
+    let round = firing::list(sheet, &found.delays, counts).expect(NEVER_STALLS);
     let times = time_table(&ready, &found);
     if !buffers.hold(&start, &round, &times) {
         return Err(Refusal::Room);

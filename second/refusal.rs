@@ -11,7 +11,6 @@ pub enum Refusal {
     CountsFail,
     Stuck,
     NoRetiming,
-    ListStuck,
     Room,
     Hand,
     /// Holds the lowest queue with a new delay below 0.
@@ -36,7 +35,6 @@ fn line(refusal: &Refusal) -> String {
         Refusal::CountsFail => (7, "counts-fail", 0),
         Refusal::Stuck => (8, "stuck", 0),
         Refusal::NoRetiming => (9, "no-retiming", 0),
-        Refusal::ListStuck => (10, "list-stuck", 0),
         Refusal::Room => (11, "room", 0),
         Refusal::Hand => (12, "hand", 0),
         Refusal::Negative(queue) => (13, "negative", *queue),

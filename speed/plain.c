@@ -209,8 +209,7 @@ static unsigned ready(const struct sheet *sheet, const unsigned *delay, const un
     return v;
 }
 
-/* Fires every station as often as wanted, total firings in all; false if that can't be completed.
- * Without a list it is a dry run. */
+/* Fires every station as often as wanted, total firings in all; false if that can't be completed. */
 static bool fire_list(const struct sheet *sheet, const unsigned *delay, const unsigned *wanted,
                       unsigned total, uint16_t *list)
 {
@@ -219,8 +218,7 @@ static bool fire_list(const struct sheet *sheet, const unsigned *delay, const un
         unsigned v = ready(sheet, delay, wanted, fired);
         if (v == sheet->n)
             return false;
-        if (list)
-            list[k] = v;
+        list[k] = v;
         fired[v]++;
     }
     return true;
@@ -383,8 +381,8 @@ static unsigned check(const unsigned char *s, size_t size, struct sheet *sheet, 
     return fire_round(sheet, sheet->delay, list) ? 0 : 8;
 }
 
-/* The first of refusals 1 to 11 that applies, with dry runs of both lists for 10; or 0, and both
- * lists and the time table in the lent buffers. */
+/* The first of refusals 1 to 9 and 11 that applies; or 0, and both lists and the time table in the
+ * lent buffers. */
 static unsigned make_plan(const unsigned char *s, size_t size, const struct lent *lent,
                           struct sheet *sheet, struct plan *plan)
 {
@@ -396,9 +394,6 @@ static unsigned make_plan(const unsigned char *s, size_t size, const struct lent
     if (!search(sheet, list, plan, times))
         return 9;
     find_starts(sheet, plan);
-    if (!fire_list(sheet, sheet->delay, plan->firings, plan->starts, NULL) ||
-        !fire_round(sheet, plan->delay, NULL))
-        return 10;
     if (lent->starts < plan->starts || lent->rounds < sheet->total || lent->tables < sheet->total)
         return 11;
     fire_list(sheet, sheet->delay, plan->firings, plan->starts, lent->start);
@@ -455,9 +450,10 @@ static void print_number(const char *word, unsigned number)
 
 static void print_refusal(unsigned number, unsigned place)
 {
+    /* by number; there is no refusal 10 */
     static const char *const word[] = {
         "", "short", "version", "counts", "layout", "field", "apart", "counts-fail",
-        "stuck", "no-retiming", "list-stuck", "room"
+        "stuck", "no-retiming", "", "room"
     };
     print_number("refused ", number);
     print_text(" ");

@@ -141,6 +141,11 @@ module _ {f : Sheet} {r : Checked} (h : Ready f r) where
   pub ready-given : DelaysGiven (f .m) (r .delay)
   ready-given = subst (DelaysGiven (f .m)) (sym (h .delays)) (h .given)
 
+  pub ready-not-stuck : ¬ Stuck (netFor f (r .q)) (delaysFor f (r .q))
+  ready-not-stuck s =
+      let W = sound ready-counted (f .time) in
+      stuck-cannot-fire (netFor f (r .q)) W (delaysFor f (r .q)) s (round-of-list (netFor f (r .q)) W (delaysFor f (r .q)) _ (h .round))
+
   -- and an order in which its round can be fired
   pub ready-ordered : Ordered (f .n) (f .m) (f .source) (f .sink) (f .produced) (f .consumed) (r .delay) (f .time) (r .q) (r .total) (r .list)
   ready-ordered =

@@ -1,6 +1,5 @@
 -- A plan exists wherever any whole numbers serve a sheet that isn't stuck, and there is no second.
 use mathlib.Core.Path.{_≡_, refl, sym, ap, ap₂, _∙_, fun-ext}
-use mathlib.Core.Logic.{inl, inr}
 use Prim.Native.Nat.{ℕ, zero, suc, _+_, _-_, _*_, _≤_, _<_}
 use native.Mathlib.Nat.{mul-le-mul-left, mul-le-mul-right}
 use native.Mathlib.Omega.{arith}
@@ -10,27 +9,26 @@ use lib.IntN.{ℤ}
 use Rattle.dataflow.specs.Net.{Net, Sound}
 use Rattle.dataflow.specs.Counts.{Counts, sum, total}
 use Rattle.dataflow.specs.Copies.{Copy}
-use Rattle.dataflow.specs.Stuck.{RoundFires}
-use Rattle.dataflow.specs.Retiming.{whole, retimed, Legal, Serves}
+use Rattle.dataflow.specs.Stuck.{Stuck, RoundFires}
+use Rattle.dataflow.specs.Retiming.{whole, retimed, Serves}
 use Rattle.dataflow.specs.Search.{Searched, nothing, raise, SearchEnds}
 use Rattle.dataflow.specs.Lists.{Covers, Back}
 use Rattle.dataflow.specs.Room.{roomOf}
 use Rattle.dataflow.specs.Promise.{Plan, PlanHolds, Promise}
-use Rattle.dataflow.specs.Refusals.{listRow}
 use Rattle.dataflow.proofs.Below.{upto, upto-of}
 use Rattle.dataflow.proofs.Decide.{equal, upto-dec}
 use Rattle.dataflow.proofs.SumLaws.{sum-above}
 use Rattle.dataflow.proofs.LateLaws.{few-of}
 use Rattle.dataflow.proofs.PathLaws.{period-once}
-use Rattle.dataflow.proofs.WholeLaws.{retimed-whole, new-delay}
-use Rattle.dataflow.proofs.StuckLaws.{legal-ranked, legal-fires, round-of-list}
+use Rattle.dataflow.proofs.WholeLaws.{new-delay}
+use Rattle.dataflow.proofs.StuckLaws.{legal-ranked, stuck-cannot-fire, round-of-list}
 use Rattle.dataflow.proofs.RankLaws.{round-ranked}
 use Rattle.dataflow.proofs.ListLaws.{list-once, list-same, start-length}
 use Rattle.dataflow.proofs.SumTable.{latest, sums}
 use Rattle.dataflow.proofs.TimeLaws.{startBy, times-exist, times-once, longest, period-exists}
 use Rattle.dataflow.proofs.SearchLaws.{rounds-bound}
 use Rattle.dataflow.proofs.EndLaws.{ends-at-plan, plan-exists, rounds-once}
-use Rattle.dataflow.proofs.RepeatLaws.{start-completes}
+use Rattle.dataflow.proofs.NotStuckLaws.{round-list-completes, start-list-completes}
 use Rattle.dataflow.proofs.PromiseLaws.{plan-retimed, kept}
 
 -- the least number with a property that can be decided, where it holds from m on; k numbers are still to be tried
@@ -79,13 +77,6 @@ module _ (G : Net) (W : Sound G) where
   pub back-bound : (d : G .Queue → ℕ) (T : ℕ) {k : ℕ} {r : ℕ → ℕ} → Searched G d T k r → (c : ℕ) → Back G r c → c ≤ k
   back-bound d T {k} s c b = b .least k (λ v h. search-bound d T s v)
 
-  -- Where r is legal and the sheet isn't stuck, refusal 10 never comes.
-  pub lists-never-stuck : (d : G .Queue → ℕ) → RoundFires G d → (r : ℕ → ℕ) → Legal G d (whole r) → (c : ℕ) → Covers G r c → (place : ℕ) → ¬ (listRow G d (retimed G d (whole r)) r c .applies place)
-  lists-never-stuck d fires r legal c covers place h =
-      let s = start-completes G W d (retimed G d (whole r)) r c _ (round-ranked G W d fires) (retimed-whole G d r legal) covers in
-      let l = legal-fires G W d fires (whole r) legal in
-      elim h [ inl x ↦ x (s .0) (s .1) | inr x ↦ x (l .0) (l .1) ]
-
   module _ (d : G .Queue → ℕ) (T : ℕ) where
     plan-of : Counts G (G .q) → RoundFires G d → 1 ≤ G .stations → (k : ℕ) (r : ℕ → ℕ) → SearchEnds G d T k r → (P : Plan G) × PlanHolds G d T P
     plan-of counts fires some k r ends =
@@ -96,8 +87,9 @@ module _ (G : Net) (W : Sound G) where
         let F = latest G D (rank .0) in
         let S = sums G W D (rank .0) (rank .1) in
         let c = back-exists r in
-        let start = start-completes G W d D r (c .0) _ (round-ranked G W d fires) (retimed-whole G d r legal) (c .1 .covers) in
-        let round = legal-fires G W d fires (whole r) legal in (
+        let free : ¬ Stuck G d = λ s. stuck-cannot-fire G W d s fires in
+        let start = start-list-completes G W d free r legal (c .0) (c .1 .covers) in
+        let round = round-list-completes G W d free (whole r) legal in (
           record {
             period = longest G F;
             rounds = k;

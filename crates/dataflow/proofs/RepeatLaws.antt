@@ -1,10 +1,9 @@
--- The start list can be completed and leaves the new delays; the round list leaves them again, any number of times.
+-- The start list leaves the new delays; the round list leaves them again, any number of times.
 use mathlib.Core.Path.{_≡_, sym, ap, ap₂, _∙_}
 use mathlib.Core.List.{List, [], _∷_}
-use Prim.Native.Nat.{ℕ, zero, suc, _+_, _-_, _*_, _≤_, _<_}
+use Prim.Native.Nat.{ℕ, zero, suc, _+_, _-_, _*_, _<_}
 use native.Mathlib.Nat.{sub-add-cancel}
 use native.Mathlib.Omega.{arith}
-use native.Mathlib.Decide.{decLe}
 use lib.ListN.{length, drop, length-append, length-drop}
 use Rattle.dataflow.specs.Net.{Net, Sound}
 use Rattle.dataflow.specs.Runs.{State, initially, fire, after, takesFrom, putsOn, Run, ended, fires}
@@ -13,9 +12,7 @@ use Rattle.dataflow.proofs.ListFrom.{length-from}
 use Rattle.dataflow.proofs.WholeLaws.{Retimed}
 use Rattle.dataflow.proofs.RunLaws.{holds, holds-length}
 use Rattle.dataflow.proofs.TakenLaws.{after-append, run-append}
-use Rattle.dataflow.proofs.RankLaws.{Ranked}
 use Rattle.dataflow.proofs.ListLaws.{list-run, list-fired}
-use Rattle.dataflow.proofs.CompleteLaws.{list-completes}
 
 module _ (G : Net) where
   -- Whether a list can be fired hangs on how many tokens there are, and on nothing else.
@@ -43,19 +40,12 @@ module _ (G : Net) where
 
 module _ (G : Net) (W : Sound G) where
   -- the start list leaves exactly the new delays
-  start-leaves : (d D : G .Queue → ℕ) (r : ℕ → ℕ) (c : ℕ) → Retimed G d r D → Covers G r c
+  pub start-leaves : (d D : G .Queue → ℕ) (r : ℕ → ℕ) (c : ℕ) → Retimed G d r D → Covers G r c
       → (e : G .Queue) → D e + (c * G .q (G .sink e) - r (G .sink e)) * G .consumed e ≡ d e + (c * G .q (G .source e) - r (G .source e)) * G .produced e
   start-leaves d D r c h covers e =
       let a = ap (λ (x : ℕ). x * G .consumed e) (sub-add-cancel (covers (G .sink e) (W .enters e))) in
       let b = ap (λ (x : ℕ). x * G .produced e) (sub-add-cancel (covers (G .source e) (W .leaves e))) in
       omega (arith, h e, ap (λ (x : ℕ). c * x) (W .counts .balanced e))
-
-  pub start-completes : (d D : G .Queue → ℕ) (r : ℕ → ℕ) (c R : ℕ) → Ranked G d (G .q) R → Retimed G d r D → Covers G r c → (l : List ℕ) × StartList G d r c l
-  start-completes d D r c R k h covers =
-      list-completes G W d (λ v. c * G .q v - r v) real R k (λ e. omega (arith, start-leaves d D r c h covers e))
-    where
-      real : (v : ℕ) → 1 ≤ c * G .q v - r v → v < G .stations
-      real v a = elim (decLe (G .stations) v) [ yes b ↦ absurd (omega (arith, ap (λ (x : ℕ). c * x) (W .beyond v b))) | no b ↦ omega arith ]
 
   pub after-start : (d D : G .Queue → ℕ) (r : ℕ → ℕ) (c : ℕ) (l : List ℕ) → Retimed G d r D → Covers G r c → StartList G d r c l
       → (e : G .Queue) → length (after G (initially G d) l .holds e) ≡ D e

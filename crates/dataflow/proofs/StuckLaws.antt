@@ -1,4 +1,4 @@
--- Stuck in the one wording is stuck in the other; a legal retiming of a sheet that isn't stuck isn't stuck.
+-- Stuck in the one wording is stuck in the other; the copies of a legal retiming have ranks where the sheet isn't stuck.
 use mathlib.Core.List.{List}
 use mathlib.Core.Logic.{_⊎_, inl, inr}
 use Prim.Native.Nat.{ℕ, _*_, _≤_, _<_}
@@ -16,10 +16,10 @@ use Rattle.dataflow.proofs.CopyLaws.{copy-station}
 use Rattle.dataflow.proofs.StallLaws.{stuck-of}
 use Rattle.dataflow.proofs.RankLaws.{Ranked, round-ranked, ranked-not-stuck, retimed-ranked}
 use Rattle.dataflow.proofs.ListLaws.{list-run, list-fired}
-use Rattle.dataflow.proofs.CompleteLaws.{Stalled, complete-or-stalled, list-completes}
+use Rattle.dataflow.proofs.CompleteLaws.{Stalled, complete-or-stalled}
 
 module _ (G : Net) (W : Sound G) where
-  counted : (v : ℕ) → 1 ≤ G .q v → v < G .stations
+  pub counted : (v : ℕ) → 1 ≤ G .q v → v < G .stations
   counted v h = copy-station G W {v = v} {i = 1} (omega arith)
 
   abbrev pub round-of-list : (D : G .Queue → ℕ) (l : List ℕ) → RoundList G D l → RoundFires G D
@@ -49,12 +49,3 @@ module _ (G : Net) (W : Sound G) where
 
       high : (v : ℕ) → 1 ≤ G .q v → lift G r v ≤ M * G .q v
       high v h = omega (arith, sum-above (G .stations) (lift G r) v (counted v h), mul-le-mul-left M h)
-
-  -- Source document 004, Theorem 11.
-  pub legal-fires : (d : G .Queue → ℕ) → RoundFires G d → (r : ℕ → ℤ) → Legal G d r → (l : List ℕ) × RoundList G (retimed G d r) l
-  legal-fires d f r legal =
-      let k = legal-ranked d f r legal in
-      list-completes G W (retimed G d r) (G .q) counted (k .0) (k .1) (λ e. omega (arith, W .counts .balanced e))
-
-  pub legal-not-stuck : (d : G .Queue → ℕ) → ¬ Stuck G d → (r : ℕ → ℤ) → Legal G d r → ¬ Stuck G (retimed G d r)
-  legal-not-stuck d h r legal = elim (fires-or-stuck d) [ inl f ↦ let k = legal-ranked d f r legal in ranked-not-stuck G W (retimed G d r) (k .0) (k .1) | inr s ↦ absurd (h s) ]

@@ -1,12 +1,11 @@
--- When the planner says no: the rows of the table that speak of nets, 6 to 10 and 12 to 15.
+-- When the planner says no: the rows of the table that speak of nets, 6 to 9 and 12 to 15.
 use mathlib.Core.Path.{_≡_}
 use mathlib.Core.List.{List}
-use mathlib.Core.Logic.{_⊎_}
 use mathlib.Core.Option.{some}
 use Prim.Native.Nat.{ℕ, _≤_, _<_}
 use lib.ListN.{length, getElem?}
 use lib.IntN.{ℤ, natAbs}
-use Rattle.refusals.specs.Table.{apart, counts-fail, stuck, no-retiming, list-stuck, hand, negative, slow, token}
+use Rattle.refusals.specs.Table.{apart, counts-fail, stuck, no-retiming, hand, negative, slow, token}
 use Rattle.refusals.specs.First.{Row, row}
 use Rattle.dataflow.specs.Net.{Net, Balances}
 use Rattle.dataflow.specs.Counts.{sum}
@@ -14,7 +13,6 @@ use Rattle.dataflow.specs.Copies.{Copy}
 use Rattle.dataflow.specs.Paths.{Period}
 use Rattle.dataflow.specs.Stuck.{Stuck}
 use Rattle.dataflow.specs.Retiming.{NotNegative, newDelay, Serves, byHand}
-use Rattle.dataflow.specs.Lists.{StartList, RoundList}
 
 -- from -65,535 to 65,535
 abbrev pub InHandRange : ℤ → Type 0
@@ -42,10 +40,6 @@ module _ (G : Net) where
   -- 9: no whole numbers serve.
   abbrev pub retimingRow : (d : G .Queue → ℕ) (T : ℕ) → Row
   retimingRow d T = row no-retiming ((r : ℕ → ℤ) → ¬ Serves G d T r)
-
-  -- 10: the start list or the round list can't be completed.
-  abbrev pub listRow : (d D : G .Queue → ℕ) (r : ℕ → ℕ) (c : ℕ) → Row
-  listRow d D r c = row list-stuck (((l : List ℕ) → ¬ StartList G d r c l) ⊎ ((l : List ℕ) → ¬ RoundList G D l))
 
   -- A hand list has exactly an entry for each station, each in range.
   pub record HandFits (l : List ℤ) : Type 0 where

@@ -6,8 +6,8 @@ use mathlib.Core.Bool.{Bool, true, false}
 use mathlib.Core.Logic.{⊎-elim}
 use native.Mathlib.Omega.{arith}
 use native.Mathlib.Decide.{ℕ-discrete}
-use lib.ListN.{length, set, take, drop, replicate, length-set, length-append}
-use lib.Seq.{take-all, take-append-le, take-nil, getD-set-same, getD-set-other}
+use lib.ListN.{length, set, drop, replicate, length-set, length-append}
+use lib.Seq.{getD-set-same, getD-set-other}
 use Rattle.lists.specs.Front.{at}
 use Rattle.lists.specs.Put.{put}
 use Rattle.lists.proofs.Order.{lt-or-ge}
@@ -46,7 +46,7 @@ module _ (n m : ℕ) (source sink produced consumed delay : List ℕ) where
       pub wide : length fired ≡ 32
       pub made : List ℕ
       pub long : length made ≡ k
-      pub stored : list ≡ put before 0 (take (length before) made)
+      pub stored : list ≡ put before 0 made
       pub prefix : (time q : List ℕ) → Prefix (G time q) D (at wanted) made
       pub is : (time q : List ℕ) (v : ℕ) → at fired v ≡ firedBy (G time q) D made v
 
@@ -55,7 +55,7 @@ module _ (n m : ℕ) (source sink produced consumed delay : List ℕ) where
       wide = refl;
       made = [];
       long = refl;
-      stored = rw (take-nil (length before)) (put-nothing before 0);
+      stored = put-nothing before 0;
       prefix = λ time q. none;
       is = λ time q v. at-zeros 32 v;
     }
@@ -68,7 +68,7 @@ module _ (n m : ℕ) (source sink produced consumed delay : List ℕ) where
           ⊎-elim (λ l. omega (arith, sum-above n (at wanted) v l, w .adds, w .few)) (λ l. omega (arith, w .beyond v l)) (lt-or-ge v n)
 
       pub kept-length : length list ≡ length before
-      kept-length = rw (z .stored) (length-put before 0 (take (length before) (z .made)))
+      kept-length = rw (z .stored) (length-put before 0 (z .made))
 
       module _ (v : ℕ) (here : v < n) (few : n ≤ 32) (low : LowestThatCan (Can m source sink produced consumed delay wanted fired) n v) where
         more-is : (time q : List ℕ) (w : ℕ) → at (set fired v (at fired v + 1)) w ≡ firedBy (G time q) D (z .made ++ (v ∷ [])) w
@@ -78,28 +78,18 @@ module _ (n m : ℕ) (source sink produced consumed delay : List ℕ) where
             go (yes x) = rw (x, getD-set-same fired v (at fired v + 1) 0 (omega (arith, z .wide))) (omega (arith, z .is time q v))
             go (no x) = rw (getD-set-other fired v w (at fired v + 1) 0 x) (omega (arith, z .is time q w))
 
-        one-more : {new : List ℕ} → new ≡ put before 0 (take (length before) (z .made ++ (v ∷ []))) → SoFar new (set fired v (at fired v + 1)) (k + 1)
-        one-more e = record {
+        -- the lowest station that can fires next and is stored
+        pub one-more : SoFar (set list k v) (set fired v (at fired v + 1)) (k + 1)
+        one-more = record {
           wide = simp length-set (z .wide);
           made = z .made ++ (v ∷ []);
           long = omega (arith, length-append (z .made) (v ∷ []), z .long);
-          stored = e;
+          stored = let p : k ≡ 0 + length (z .made) = omega (arith, z .long) in rw (z .stored, p) (put-one-more before 0 (z .made) v);
           prefix = λ time q.
               prefix-next (G time q) D (at wanted) (z .prefix time q) v here (omega (arith, z .is time q v, low .can here .left)) (fed-by time q fired (firedBy (G time q) D (z .made)) (z .is time q) v (low .can here .fed))
               (λ w l a f. low .below w l (record { left = omega (arith, z .is time q w); fed = by-fed time q fired (firedBy (G time q) D (z .made)) (z .is time q) w f }));
           is = more-is;
         }
-
-        -- the lowest station that can fires next, and is stored where there is an entry for it
-        pub fired-stored : k < length list → SoFar (set list k v) (set fired v (at fired v + 1)) (k + 1)
-        fired-stored h =
-            let a : take (length before) (z .made) ≡ z .made = take-all (length before) (z .made) (omega (arith, z .long, kept-length)) in
-            let b : take (length before) (z .made ++ (v ∷ [])) ≡ z .made ++ (v ∷ []) = take-all (length before) (z .made ++ (v ∷ [])) (omega (arith, length-append (z .made) (v ∷ []), z .long, kept-length)) in
-            let p : k ≡ 0 + length (z .made) = omega (arith, z .long) in
-            one-more (rw (b, z .stored, a, p) (put-one-more before 0 (z .made) v))
-
-        pub fired-unstored : length list ≤ k → SoFar list (set fired v (at fired v + 1)) (k + 1)
-        fired-unstored h = one-more (rw (take-append-le (length before) (z .made) (v ∷ []) (omega (arith, z .long, kept-length))) (z .stored))
 
       -- no station can, and some are left
       pub stalled : k < total → LowestThatCan (Can m source sink produced consumed delay wanted fired) n n → Wanted n wanted total → Fires n m source sink produced consumed delay wanted total false before list
@@ -131,5 +121,4 @@ pub written : {n m : ℕ} {source sink produced consumed delay wanted : List ℕ
     → Wanted n wanted total → r ≡ true → total ≤ length before → (length (f .made) ≡ total) × (after ≡ f .made ++ drop total before)
 written {n} {m} {source} {sink} {produced} {consumed} {delay} {wanted} {total} {before = before} f w t h =
     let l : length (f .made) ≡ total = omega (arith, list-length (netOf n m source sink produced consumed [] []) (at wanted) (f .complete t [] []), sum-none n, w .adds) in
-    let all : take (length before) (f .made) ≡ f .made = take-all (length before) (f .made) (omega arith) in
-    (l, rw (f .stored, all, put-front before (f .made) (omega arith), l) refl)
+    (l, rw (f .stored, put-front before (f .made) (omega arith), l) refl)

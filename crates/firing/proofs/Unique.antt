@@ -5,7 +5,7 @@ use mathlib.Core.Bool.{Bool, true, false}
 use mathlib.Core.List.{List, []}
 use mathlib.Core.Logic.{⊎-elim}
 use native.Mathlib.Omega.{arith}
-use lib.ListN.{length, take}
+use lib.ListN.{length}
 use lib.Seq.{ext-getD, take-all}
 use Rattle.lists.specs.Front.{at}
 use Rattle.lists.specs.Put.{put}
@@ -81,7 +81,7 @@ module _ (n m : ℕ) (source sink produced consumed delay wanted : List ℕ) (to
     same-after : length (f .made) ≡ length (f′ .made) → after ≡ after′
     same-after e =
         let made : f .made ≡ f′ .made = prefix-front G D (at wanted) (f .so-far [] []) (f′ .so-far [] []) (omega arith) ∙ take-all (length (f .made)) (f′ .made) (omega arith) in
-        f .stored ∙ ap (λ (x : List ℕ). put before 0 (take (length before) x)) made ∙ sym (f′ .stored)
+        f .stored ∙ ap (λ (x : List ℕ). put before 0 x) made ∙ sym (f′ .stored)
 
     pub fire-list-unique : (r ≡ r′) × (after ≡ after′)
     fire-list-unique = go r r′ refl refl

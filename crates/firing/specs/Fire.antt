@@ -3,7 +3,7 @@ use Prim.Native.Nat.{ℕ, _≤_, _<_}
 use mathlib.Core.Path.{_≡_}
 use mathlib.Core.Bool.{Bool, true, false}
 use mathlib.Core.List.{List}
-use lib.ListN.{length, take}
+use lib.ListN.{length}
 use Rattle.lists.specs.Front.{at}
 use Rattle.lists.specs.Put.{put}
 use Rattle.dataflow.specs.Counts.{sum}
@@ -17,11 +17,11 @@ pub record Wanted (n : ℕ) (wanted : List ℕ) (total : ℕ) : Type 0 where
   pub beyond : (v : ℕ) → n ≤ v → at wanted v ≡ 0
   pub few : total ≤ 65536
 
--- The firings that were made, each the lowest-numbered station that could fire, are stored as far as the lent list has entries. They are all that are wanted, or no station
+-- The firings that were made, each the lowest-numbered station that could fire, are stored in the first entries of the lent list. They are all that are wanted, or no station
 -- that has firings left can fire. The times and the counts of the stations play no part.
 pub record Fires (n m : ℕ) (source sink produced consumed delay wanted : List ℕ) (total : ℕ) (r : Bool) (before after : List ℕ) : Type 0 where
   pub made : List ℕ
-  pub stored : after ≡ put before 0 (take (length before) made)
+  pub stored : after ≡ put before 0 made
   pub so-far : (time q : List ℕ) → Prefix (netOf n m source sink produced consumed time q) (delaysOf m delay) (at wanted) made
   pub complete : r ≡ true → (time q : List ℕ) → FiringList (netOf n m source sink produced consumed time q) (at wanted) (initially (netOf n m source sink produced consumed time q) (delaysOf m delay)) made
   pub fewer : r ≡ false → length made < total

@@ -1,13 +1,14 @@
 // A list of firings.
-ghost use Prim.Native.Nat.{ℕ, _<_, _^_};
+ghost use Prim.Native.Nat.{ℕ, _≤_, _<_, _^_};
+ghost use lib.ListN.{length};
 ghost use Rattle.lists.specs.Front.{at};
 ghost use Rattle.chain.specs.Chain.{Chain};
 ghost use Rattle.firing.specs.Into.{Threads};
 ghost use Rattle.firing.specs.Fire.{Wanted, Fires};
 use crate::scan::ready;
 
-// Fires every station as often as wanted from these delays, always the lowest-numbered station that can, and says whether that can be done. The firings are stored as far
-// as the list has entries, so that an empty list makes it a dry run. At most total scans.
+// Fires every station as often as wanted from these delays, always the lowest-numbered station that can, and says whether that can be done. The firings are stored in the
+// list's first entries. At most total scans.
 pub fn fire_list(
     n: usize,
     m: usize,
@@ -22,7 +23,7 @@ pub fn fire_list(
     wanted: &[u32; 32],
     list: &mut [u16],
 ) -> bool
-    requires { ⌜ Chain n m (now source) (now sink) (now produced) (now consumed) × (Threads n m (now sink) (now head) (now next) × (((e : ℕ) → at (now delay) e < 2 ^ 30) × Wanted n (now wanted) total)) ⌝ }
+    requires { ⌜ Chain n m (now source) (now sink) (now produced) (now consumed) × (Threads n m (now sink) (now head) (now next) × (((e : ℕ) → at (now delay) e < 2 ^ 30) × (Wanted n (now wanted) total × (total ≤ length (now list))))) ⌝ }
     ensures { λ r. ⌜ Fires n m (now (source .entry)) (now (sink .entry)) (now (produced .entry)) (now (consumed .entry)) (now (delay .entry)) (now (wanted .entry)) total r (now (list .entry)) (now (list .exit)) ⌝ }
 {
     let mut fired = [0u32; 32];
@@ -43,9 +44,7 @@ pub fn fire_list(
         if v == n {
             return false;
         }
-        if k < list.len() {
-            list[k] = v as u16;
-        }
+        list[k] = v as u16;
         fired[v] = fired[v] + 1;
     }
     true

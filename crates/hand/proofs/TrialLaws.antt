@@ -22,7 +22,7 @@ use Rattle.dataflow.specs.Sheet.{Below}
 use Rattle.dataflow.specs.Stuck.{Stuck}
 use Rattle.dataflow.proofs.NumberLaws.{number-of, number-is}
 use Rattle.dataflow.proofs.PathLaws.{period-once}
-use Rattle.dataflow.proofs.StuckLaws.{stuck-cannot-fire, round-of-list, legal-not-stuck}
+use Rattle.dataflow.proofs.NotStuckLaws.{legal-retiming-not-stuck}
 use Rattle.dataflow.proofs.WholeLaws.{Difference, delay-is}
 use Rattle.chain.specs.Chain.{delaysOf}
 use Rattle.chain.proofs.ChainLaws.{sound}
@@ -31,7 +31,7 @@ use Rattle.firing.proofs.PeriodLaws.{round-stuck}
 use Rattle.sheet.specs.declared.Sheet.{Sheet}
 use Rattle.checks.specs.declared.Checked.{Checked}
 use Rattle.checks.specs.Check.{netFor, delaysFor, CountsOf, Ready}
-use Rattle.checks.proofs.CheckLaws.{counts-of-once, ready-counted, ready-given}
+use Rattle.checks.proofs.CheckLaws.{counts-of-once, ready-counted, ready-given, ready-not-stuck}
 use Rattle.hand.specs.declared.HandPeriod.{HandPeriod}
 use Rattle.hand.specs.Hand.{negativeRow, slowRow, Tried}
 use Rattle.hand.specs.Shift.{Shiftable, SumsOf, HasEnough, Differences}
@@ -108,7 +108,7 @@ module _ {c : Checked} (h : Ready (c .sheet) c) {l : List ℤ} (fit : HandFits (
           ready = h;
           small = small;
           fires = subst (λ (D : Below (f .m) → ℕ). ¬ Stuck (netFor f (c .q)) D) (new-delays (c .q))
-              (legal-not-stuck (netFor f (c .q)) W (delaysFor f (c .q)) (λ k. stuck-cannot-fire (netFor f (c .q)) W (delaysFor f (c .q)) k (round-of-list (netFor f (c .q)) W (delaysFor f (c .q)) _ (h .round))) (byHand l) (is-legal (c .q)));
+              (legal-retiming-not-stuck (netFor f (c .q)) W (delaysFor f (c .q)) (ready-not-stuck h) (byHand l) (is-legal (c .q)));
         }
 
         module _ {P : ℕ} (p : Period (netFor f (c .q)) (delaysOf (f .m) new) P) where

@@ -7,7 +7,7 @@ use native.Mathlib.Nat.{mul-le-mul}
 use native.Mathlib.Omega.{arith}
 use lib.ListN.{length}
 use Rattle.lists.specs.Front.{at}
-use Rattle.lists.proofs.Order.{le-stable}
+use Rattle.lists.proofs.Order.{order, le-stable}
 use Rattle.refusals.specs.Table.{number}
 use Rattle.refusals.specs.First.{Passed, nth, First}
 use Rattle.refusals.proofs.FirstLaws.{Given, refusal-given, front-passed}
@@ -28,7 +28,7 @@ use Rattle.sheet.specs.Read.{readRows}
 use Rattle.checks.specs.Check.{netFor, delaysFor, CountsOf, chainRows}
 use Rattle.checks.proofs.CheckLaws.{any-counts, rows-chain, rows-sound}
 use Rattle.planner.specs.declared.Planning.{Planning}
-use Rattle.planner.specs.Plan.{Worked, startLength, retimedRows, planRows, Plans}
+use Rattle.planner.specs.Plan.{Worked, startLength, TooShort, retimedRows, planRows, Plans}
 
 -- where 7 isn't given the counts add up to at most 256
 counts-few : (f : Sheet) → Passed (countsRow (netFor f [])) → (q : List ℕ) → CountsOf f q → sum (f .n) (at q) ≤ 256
@@ -53,21 +53,20 @@ module _ (f : Sheet) (q : List ℕ) (W : Sound (netFor f q)) (some : 1 ≤ f .n)
       omega (arith, sum-le (f .n) (λ v. back * at q v - at retiming v) (λ v. back * at q v) (λ v. omega arith), sum-times (f .n) back (at q), mul-le-mul most few)
 
 module _ (s : List ℕ) (x y z place : ℕ) (g : Given (planRows s x y z) 11 place) where
-  -- the rows of planning are numbered from 1
-  numbered : (i : ℕ) → i < 11 → number (nth (planRows s x y z) i .refusal) ≡ suc i
-  numbered = upto (λ i. number (nth (planRows s x y z) i .refusal) ≡ suc i) 11 (((((((((((tt, refl), refl), refl), refl), refl), refl), refl), refl), refl), refl), refl)
+  -- the first nine rows of planning are numbered from 1, so that 11 is the tenth's
+  numbered : (i : ℕ) → i < 9 → number (nth (planRows s x y z) i .refusal) ≡ suc i
+  numbered = upto (λ i. number (nth (planRows s x y z) i .refusal) ≡ suc i) 9 (((((((((tt, refl), refl), refl), refl), refl), refl), refl), refl), refl)
 
-  last : g .row ≡ 10
-  last = omega (arith, numbered (g .row) (g .here), g .is)
+  last : g .row ≡ 9
+  last = order (g .row) 9 (λ lt. absurd (omega (arith, numbered (g .row) lt, g .is))) (λ eq. eq) (λ gt. absurd (omega (arith, g .here)))
 
-  earlier : (j : ℕ) → j < 10 → Passed (nth (planRows s x y z) j)
+  earlier : (j : ℕ) → j < 9 → Passed (nth (planRows s x y z) j)
   earlier j b = g .before j (omega (arith, last))
 
   read-free : (j : ℕ) → j < 5 → Passed (nth (readRows s) j)
   read-free = front-passed (readRows s) (chainRows (sheetOf s) ++ retimedRows (sheetOf s) x y z) (λ j b. earlier j (omega arith))
 
-  short : (q : List ℕ) × (retiming : List ℕ) × (back : ℕ) × Worked (sheetOf s) q retiming back
-      × ((x < startLength (sheetOf s .n) q retiming back) ⊎ ((y < sum (sheetOf s .n) (at q)) ⊎ (z < sum (sheetOf s .n) (at q))))
+  short : (q : List ℕ) × (retiming : List ℕ) × (back : ℕ) × Worked (sheetOf s) q retiming back × TooShort (sheetOf s .n) q retiming back x y z
   short = rw last at (g .applies)
 
   pub room-enough : 65280 ≤ x → 256 ≤ y → 256 ≤ z → ⊥

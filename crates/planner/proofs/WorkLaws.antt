@@ -10,14 +10,12 @@ use Rattle.lists.proofs.Order.{lt-or-ge}
 use Rattle.dataflow.specs.Net.{Sound}
 use Rattle.dataflow.specs.Counts.{sum}
 use Rattle.dataflow.specs.Lists.{Back}
-use Rattle.dataflow.specs.Stuck.{RoundFires}
-use Rattle.dataflow.proofs.StuckLaws.{round-of-list}
 use Rattle.dataflow.proofs.SumLaws.{sum-le, sum-times, sum-same}
 use Rattle.sheet.specs.declared.Sheet.{Sheet}
 use Rattle.chain.specs.Chain.{CountedChain}
 use Rattle.chain.proofs.ChainLaws.{sound, count-few}
 use Rattle.checks.specs.declared.Checked.{Checked}
-use Rattle.checks.specs.Check.{netFor, delaysFor}
+use Rattle.checks.specs.Check.{netFor}
 use Rattle.checks.proofs.CheckLaws.{ready-counted, ready-given}
 use Rattle.firing.proofs.PeriodLaws.{round-wanted}
 use Rattle.search.specs.declared.Found.{Found}
@@ -42,9 +40,6 @@ module _ {c : Checked} {r : Found} (h : Retimed c r) where
   -- by the sheet's own delays
   pub retimes : Retimes (f .n) (f .m) (f .source) (f .sink) (f .produced) (f .consumed) (f .delay) (f .time) (c .q) (c .total) (f .target) r
   retimes = subst (λ (d : List ℕ). Retimes (f .n) (f .m) (f .source) (f .sink) (f .produced) (f .consumed) d (f .time) (c .q) (c .total) (f .target) r) (h .ready .delays) (h .retimes)
-
-  pub fires-round : RoundFires (netFor f (c .q)) (delaysFor f (c .q))
-  fires-round = round-of-list (netFor f (c .q)) W (delaysFor f (c .q)) _ (h .ready .round)
 
   pub small : Small (f .n) (c .q) (r .retiming)
   small = record {

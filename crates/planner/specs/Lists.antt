@@ -1,9 +1,7 @@
 -- The lists of a plan, written to lent buffers.
 use Prim.Native.Nat.{ℕ, _<_, _^_}
 use mathlib.Core.Path.{_≡_}
-use mathlib.Core.Bool.{Bool, true, false}
 use mathlib.Core.List.{List, _++_}
-use mathlib.Core.Logic.{_⊎_}
 use lib.ListN.{length, drop}
 use Rattle.lists.specs.Front.{at}
 use Rattle.dataflow.specs.Runs.{initially}
@@ -28,23 +26,12 @@ module _ (n m : ℕ) (source sink produced consumed delay wanted : List ℕ) whe
   abbrev pub ListOf : List ℕ → Type 0
   ListOf l = (time q : List ℕ) → IsList time q l
 
-  abbrev pub NoList : Type 0
-  NoList = (time q l : List ℕ) → IsList time q l → ⊥
-
-  -- whether there is such a list
-  pub record Completes (r : Bool) : Type 0 where
-    pub complete : r ≡ true → (l : List ℕ) × ListOf l
-    pub never : r ≡ false → NoList
+  -- there is such a list; the times and the counts may be any
+  abbrev pub Completes : Type 0
+  Completes = (time : List ℕ) × (q : List ℕ) × (l : List ℕ) × IsList time q l
 
   -- the list stands in the first entries, and the others are as they were
   pub record Written (before after : List ℕ) : Type 0 where
     pub list : List ℕ
     pub is : ListOf list
     pub stored : after ≡ list ++ drop (length list) before
-
-module _ (n m : ℕ) (source sink produced consumed delay firings new q : List ℕ) where
-  -- whether there is a start list from the delays and a round list from the new ones
-  pub record BothComplete (r : Bool) : Type 0 where
-    pub start : r ≡ true → (l : List ℕ) × ListOf n m source sink produced consumed delay firings l
-    pub round : r ≡ true → (l : List ℕ) × ListOf n m source sink produced consumed new q l
-    pub never : r ≡ false → NoList n m source sink produced consumed delay firings ⊎ NoList n m source sink produced consumed new q

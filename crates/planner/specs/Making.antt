@@ -12,7 +12,7 @@ use Rattle.search.specs.Found.{Retimes}
 use Rattle.retimed.specs.Back.{BackOf, StartFirings}
 use Rattle.retimed.specs.Rooms.{Rooms}
 use Rattle.planner.specs.declared.Planning.{Planning}
-use Rattle.planner.specs.Lists.{ListOf, Written}
+use Rattle.planner.specs.Lists.{Written}
 
 -- no check refuses the sheet, and these are its retiming and what comes with it
 pub record Retimed (c : Checked) (r : Found) : Type 0 where
@@ -25,12 +25,6 @@ pub record Begun (c : Checked) (r : Found) (back : ℕ) (firings : List ℕ) (st
   pub backs : BackOf (c .sheet .n) (c .q) (r .retiming) back
   pub fires : StartFirings (c .sheet .n) (c .q) (r .retiming) back firings
   pub adds : starts ≡ sum (c .sheet .n) (at firings)
-
--- both lists can be completed
-pub record Listed (c : Checked) (r : Found) (back : ℕ) (firings : List ℕ) (starts : ℕ) : Type 0 where
-  pub begun : Begun c r back firings starts
-  pub start : (l : List ℕ) × ListOf (c .sheet .n) (c .sheet .m) (c .sheet .source) (c .sheet .sink) (c .sheet .produced) (c .sheet .consumed) (c .delay) firings l
-  pub round : (l : List ℕ) × ListOf (c .sheet .n) (c .sheet .m) (c .sheet .source) (c .sheet .sink) (c .sheet .produced) (c .sheet .consumed) (r .delay) (c .q) l
 
 -- no lent buffer is shorter than needed
 pub record HasRoom (c : Checked) (starts : ℕ) (start round times : List ℕ) : Type 0 where

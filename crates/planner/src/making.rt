@@ -4,11 +4,9 @@ ghost use Prim.Native.Nat.{_≤_};
 ghost use mathlib.Core.List.{[], _∷_};
 ghost use lib.ListN.{length};
 ghost use Rattle.checks.specs.Check.{Ready};
-ghost use Rattle.planner.specs.Making.{Retimed, Begun, Listed, HasRoom, Wrote, Shown};
-ghost use Rattle.planner.specs.Plan.{listsRow, roomRow, retimedRows, refusedBy, AnswersPlan, Plans};
-ghost use Rattle.planner.specs.Lists.{BothComplete};
+ghost use Rattle.planner.specs.Making.{Retimed, Begun, HasRoom, Wrote, Shown};
+ghost use Rattle.planner.specs.Plan.{roomRow, retimedRows, refusedBy, AnswersPlan, Plans};
 use crate::Planning;
-use crate::listing::both_complete;
 use crate::listing::write_list;
 use crate::listing::write_times;
 use checks::Checked;
@@ -36,7 +34,7 @@ fn refused(number: u32, place: u32) -> Planning
     }
 }
 
-// Writes both lists, each fired once more, and the time table.
+// Writes both lists, each fired once, and the time table.
 fn write(
     checked: Checked,
     found: Found,
@@ -47,7 +45,7 @@ fn write(
     round: &mut [u16],
     times: &mut [u32],
 )
-    requires { ⌜ Listed checked found back firings starts × HasRoom checked starts (now start) (now round) (now times) ⌝ }
+    requires { ⌜ Begun checked found back firings starts × HasRoom checked starts (now start) (now round) (now times) ⌝ }
     ensures { λ _. ⌜ Wrote checked found firings (now (start .entry)) (now (round .entry)) (now (times .entry)) (now (start .exit)) (now (round .exit)) (now (times .exit)) ⌝ }
 {
     let n = checked.sheet.n;
@@ -135,7 +133,7 @@ fn lent(
     round: &mut [u16],
     times: &mut [u32],
 ) -> Planning
-    requires { ⌜ Listed checked found back firings starts ⌝ }
+    requires { ⌜ Begun checked found back firings starts ⌝ }
     ensures { λ r. ⌜ AnswersPlan (roomRow (checked .sheet) (length (now (start .entry))) (length (now (round .entry))) (length (now (times .entry))) ∷ []) (checked .sheet) (now (start .entry)) (now (round .entry)) (now (times .entry)) r (now (start .exit)) (now (round .exit)) (now (times .exit)) ⌝ }
 {
     if start.len() < starts {
@@ -151,40 +149,8 @@ fn lent(
     shown(checked, found, back, firings, starts)
 }
 
-// Dry runs of both lists.
-fn completes(checked: Checked, found: Found, back: u32, firings: [u32; 32], starts: usize) -> bool
-    requires { ⌜ Begun checked found back firings starts ⌝ }
-    ensures { λ r. ⌜ BothComplete (checked .sheet .n) (checked .sheet .m) (checked .sheet .source) (checked .sheet .sink) (checked .sheet .produced) (checked .sheet .consumed) (checked .delay) firings (found .delay) (checked .q) r ⌝ }
-{
-    let source = checked.sheet.source;
-    let sink = checked.sheet.sink;
-    let produced = checked.sheet.produced;
-    let consumed = checked.sheet.consumed;
-    let delay = checked.delay;
-    let new = found.delay;
-    let head = checked.head;
-    let next = checked.next;
-    let q = checked.q;
-    both_complete(
-        checked.sheet.n,
-        checked.sheet.m,
-        starts,
-        checked.total,
-        &source,
-        &sink,
-        &produced,
-        &consumed,
-        &delay,
-        &new,
-        &head,
-        &next,
-        &firings,
-        &q,
-    )
-}
-
-// 10, then 11.
-fn listed(
+// The firings of the start list; then 11, or the plan.
+fn begun(
     checked: Checked,
     found: Found,
     start: &mut [u16],
@@ -192,7 +158,7 @@ fn listed(
     times: &mut [u32],
 ) -> Planning
     requires { ⌜ Retimed checked found ⌝ }
-    ensures { λ r. ⌜ AnswersPlan (listsRow (checked .sheet) ∷ roomRow (checked .sheet) (length (now (start .entry))) (length (now (round .entry))) (length (now (times .entry))) ∷ []) (checked .sheet) (now (start .entry)) (now (round .entry)) (now (times .entry)) r (now (start .exit)) (now (round .exit)) (now (times .exit)) ⌝ }
+    ensures { λ r. ⌜ AnswersPlan (roomRow (checked .sheet) (length (now (start .entry))) (length (now (round .entry))) (length (now (times .entry))) ∷ []) (checked .sheet) (now (start .entry)) (now (round .entry)) (now (times .entry)) r (now (start .exit)) (now (round .exit)) (now (times .exit)) ⌝ }
 {
     let n = checked.sheet.n;
     let q = checked.q;
@@ -200,13 +166,10 @@ fn listed(
     let back = retimed::back_of(n, &q, &retiming);
     let firings = retimed::start_firings(n, &q, &retiming, back);
     let starts = retimed::add(n, &firings);
-    if !completes(checked, found, back, firings, starts) {
-        return refused(10, 0);
-    }
     lent(checked, found, back, firings, starts, start, round, times)
 }
 
-// 9, then 10 and 11.
+// 9; then 11, or the plan.
 fn searched(checked: Checked, start: &mut [u16], round: &mut [u16], times: &mut [u32]) -> Planning
     requires { ⌜ Ready (checked .sheet) checked ⌝ }
     ensures { λ r. ⌜ AnswersPlan (retimedRows (checked .sheet) (length (now (start .entry))) (length (now (round .entry))) (length (now (times .entry)))) (checked .sheet) (now (start .entry)) (now (round .entry)) (now (times .entry)) r (now (start .exit)) (now (round .exit)) (now (times .exit)) ⌝ }
@@ -240,10 +203,10 @@ fn searched(checked: Checked, start: &mut [u16], round: &mut [u16], times: &mut 
     if !found.serves {
         return refused(9, 0);
     }
-    listed(checked, found, start, round, times)
+    begun(checked, found, start, round, times)
 }
 
-// Plans a sheet of any bytes with three lent buffers of any length: the first of refusals 1 to 11 that applies, or the plan. The start list, the round list and the time
+// Plans a sheet of any bytes with three lent buffers of any length: the first of refusals 1 to 9 and 11 that applies, or the plan. The start list, the round list and the time
 // table go to the first needed entries of the buffers; a refusal writes to none.
 pub fn plan(s: &[u8], start: &mut [u16], round: &mut [u16], times: &mut [u32]) -> Planning
     ensures { λ r. ⌜ Plans (now (s .entry)) (now (start .entry)) (now (round .entry)) (now (times .entry)) r (now (start .exit)) (now (round .exit)) (now (times .exit)) ⌝ }

@@ -1,11 +1,12 @@
 -- The laws of the word that a refusal's line has.
-use Prim.Native.Nat.{ℕ, zero, suc, _≤_, _<_}
+use Prim.Native.Nat.{ℕ, zero, suc, _+_, _≤_, _<_}
 use mathlib.Core.Path.{_≡_, sym, ap, _∙_}
 use native.Mathlib.Decide.{ℕ-discrete}
 use native.Mathlib.Omega.{arith}
 use lib.ListN.{length}
+use Rattle.lists.proofs.Order.{order}
 use Rattle.refusals.specs.Table.{Refusal, number, word}
-use Rattle.refusals.proofs.TableLaws.{number-within, number-once}
+use Rattle.refusals.proofs.TableLaws.{number-within, number-not-ten, number-once}
 use Rattle.print.specs.declared.words.Letters.{Letters}
 use Rattle.print.specs.Spelled.{Spelled, letters}
 
@@ -17,24 +18,28 @@ spelled k e fits w = record {
   unknown = λ none. absurd (none k (sym e));
 }
 
--- n is none of 1, 2, .., last
-unfoldable pub NoneOf : ℕ → ℕ → Type 0
-NoneOf zero n = Unit {0}
-NoneOf (suc last) n = NoneOf last n × (n ≡ suc last → ⊥)
+-- A, and n is none of the `count` numbers behind `from`
+unfoldable pub NoneBehind : (A : Type 0) (from count : ℕ) → ℕ → Type 0
+NoneBehind A from zero n = A
+NoneBehind A from (suc count) n = NoneBehind A from count n × (n ≡ from + suc count → ⊥)
 
-none-is : (last : ℕ) {n : ℕ} → NoneOf last n → (x : ℕ) → 0 < x → x ≤ last → x ≡ n → ⊥
-unfolding NoneOf
-none-is zero o x a b e = omega arith
-none-is (suc last) o x a b e =
-    elim (ℕ-discrete x (suc last)) [
-      | yes q ↦ o .1 (sym e ∙ q)
-      | no q ↦ none-is last (o .0) x a (omega arith) e
-    ]
+none-behind : {A : Type 0} (from count : ℕ) {n : ℕ} → NoneBehind A from count n → A × ((x : ℕ) → from < x → x ≤ from + count → x ≡ n → ⊥)
+unfolding NoneBehind
+none-behind from zero o = (o, λ x a b e. omega arith)
+none-behind from (suc count) o =
+    let before = none-behind from count (o .0) in
+    (before .0, λ x a b e. elim (ℕ-discrete x (from + suc count)) [ yes q ↦ o .1 (sym e ∙ q) | no q ↦ before .1 x a (omega arith) e ])
 
--- no word
-pub spelled-none : {n : ℕ} {r : Letters} → NoneOf 15 n → r .1 ≡ 0 → Spelled n r
-spelled-none o z = record {
-  fits = omega arith;
-  known = λ k e. absurd (none-is 15 o (number k) (number-within k .0) (number-within k .1) e);
-  unknown = λ none. z;
-}
+-- no word: n is none of 1 to 9 and none of 11 to 15
+pub spelled-none : {n : ℕ} {r : Letters} → NoneBehind (NoneBehind (Unit {0}) 0 9 n) 10 5 n → r .1 ≡ 0 → Spelled n r
+spelled-none {n} o z = record { fits = omega arith; known = λ k e. absurd (none k e); unknown = λ none. z }
+  where
+    none : (k : Refusal) → number k ≡ n → ⊥
+    none k e =
+        let high = none-behind 10 5 o in
+        let low = none-behind 0 9 (high .0) in
+        let within = number-within k in
+        order (number k) 10
+        (λ below. low .1 (number k) (within .0) (omega arith) e)
+        (λ ten. number-not-ten k ten)
+        (λ above. high .1 (number k) above (within .1) e)

@@ -18,7 +18,6 @@ pub(crate) fn word(number: u32) -> Letters
         7 => Letters(*b"counts-fail", 11),
         8 => Letters(*b"stuck      ", 5),
         9 => Letters(*b"no-retiming", 11),
-        10 => Letters(*b"list-stuck ", 10),
         11 => Letters(*b"room       ", 4),
         12 => Letters(*b"hand       ", 4),
         13 => Letters(*b"negative   ", 8),

@@ -8,7 +8,7 @@ use native.Mathlib.Nat.{not-suc-le-zero, le-of-suc-le-suc}
 use Rattle.lists.proofs.Order.{order}
 use Rattle.refusals.specs.Table.{Refusal, number}
 use Rattle.refusals.specs.First.{Row, row, Passed, Lowest, nth, First, given, free}
-use Rattle.refusals.proofs.TableLaws.{number-within}
+use Rattle.refusals.proofs.TableLaws.{number-within, number-not-ten}
 
 lowest-unique : {r : Row} {p p′ : ℕ} → Lowest r p → Lowest r p′ → p ≡ p′
 lowest-unique {r} {p} {p′} l l′ =
@@ -76,6 +76,11 @@ pub record Given (rows : List Row) (k place : ℕ) : Type 0 where
 pub refusal-given : {rows : List Row} {k place : ℕ} → First rows k place → (k ≡ 0 → ⊥) → Given rows k place
 refusal-given (given i b f l) e = record { row = i; here = b; before = f; applies = l .applies; is = refl }
 refusal-given (free f) e = absurd (e refl)
+
+-- whatever the rows, 10 is never given
+pub never-ten : {rows : List Row} {k place : ℕ} → First rows k place → k ≡ 10 → ⊥
+never-ten {rows} (given i b f l) e = number-not-ten (nth rows i .refusal) e
+never-ten (free f) e = omega arith
 
 -- no second number and place
 pub unique : {rows : List Row} {k p k′ p′ : ℕ} → First rows k p → First rows k′ p′ → (k ≡ k′) × (p ≡ p′)

@@ -1,37 +1,40 @@
 -- The laws of the table's numbers.
-use Prim.Native.Nat.{ℕ, _-_, _≤_, _<_}
+use Prim.Native.Nat.{ℕ, _≤_, _<_}
 use mathlib.Core.Path.{_≡_, refl, sym, ap, _∙_}
 use mathlib.Core.List.{[], _∷_}
 use native.Mathlib.Decide.{ℕ-discrete}
 use native.Mathlib.Omega.{arith}
 use lib.ListN.{getD}
-use Rattle.refusals.specs.Table.{Refusal, short, version, counts, layout, field, apart, counts-fail, stuck, no-retiming, list-stuck, room, hand, negative, slow, token, number}
+use Rattle.refusals.specs.Table.{Refusal, short, version, counts, layout, field, apart, counts-fail, stuck, no-retiming, room, hand, negative, slow, token, number}
 
--- the refusal with a number from 1 to 15
+-- the refusal with a number; short where none has it
 numbered : ℕ → Refusal
-numbered x = getD (short ∷ version ∷ counts ∷ layout ∷ field ∷ apart ∷ counts-fail ∷ stuck ∷ no-retiming ∷ list-stuck ∷ room ∷ hand ∷ negative ∷ slow ∷ token ∷ []) (x - 1) short
+numbered x = getD (short ∷ short ∷ version ∷ counts ∷ layout ∷ field ∷ apart ∷ counts-fail ∷ stuck ∷ no-retiming ∷ short ∷ room ∷ hand ∷ negative ∷ slow ∷ token ∷ []) x short
 
--- each number is one of these and leads back to its refusal
-in-table : (k : Refusal) → ((0 < number k) × (number k ≤ 15)) × (numbered (number k) ≡ k)
+-- each number is from 1 to 15 and not 10, and leads back to its refusal
+in-table : (k : Refusal) → ((0 < number k) × ((number k ≤ 15) × (number k ≡ 10 → ⊥))) × (numbered (number k) ≡ k)
 unfolding numbered
-in-table short = ((omega arith, omega arith), refl)
-in-table version = ((omega arith, omega arith), refl)
-in-table counts = ((omega arith, omega arith), refl)
-in-table layout = ((omega arith, omega arith), refl)
-in-table field = ((omega arith, omega arith), refl)
-in-table apart = ((omega arith, omega arith), refl)
-in-table counts-fail = ((omega arith, omega arith), refl)
-in-table stuck = ((omega arith, omega arith), refl)
-in-table no-retiming = ((omega arith, omega arith), refl)
-in-table list-stuck = ((omega arith, omega arith), refl)
-in-table room = ((omega arith, omega arith), refl)
-in-table hand = ((omega arith, omega arith), refl)
-in-table negative = ((omega arith, omega arith), refl)
-in-table slow = ((omega arith, omega arith), refl)
-in-table token = ((omega arith, omega arith), refl)
+in-table short = ((omega arith, (omega arith, λ e. omega arith)), refl)
+in-table version = ((omega arith, (omega arith, λ e. omega arith)), refl)
+in-table counts = ((omega arith, (omega arith, λ e. omega arith)), refl)
+in-table layout = ((omega arith, (omega arith, λ e. omega arith)), refl)
+in-table field = ((omega arith, (omega arith, λ e. omega arith)), refl)
+in-table apart = ((omega arith, (omega arith, λ e. omega arith)), refl)
+in-table counts-fail = ((omega arith, (omega arith, λ e. omega arith)), refl)
+in-table stuck = ((omega arith, (omega arith, λ e. omega arith)), refl)
+in-table no-retiming = ((omega arith, (omega arith, λ e. omega arith)), refl)
+in-table room = ((omega arith, (omega arith, λ e. omega arith)), refl)
+in-table hand = ((omega arith, (omega arith, λ e. omega arith)), refl)
+in-table negative = ((omega arith, (omega arith, λ e. omega arith)), refl)
+in-table slow = ((omega arith, (omega arith, λ e. omega arith)), refl)
+in-table token = ((omega arith, (omega arith, λ e. omega arith)), refl)
 
 pub number-within : (k : Refusal) → (0 < number k) × (number k ≤ 15)
-number-within k = in-table k .0
+number-within k = let x = in-table k .0 in (x .0, x .1 .0)
+
+-- no refusal has the number 10
+pub number-not-ten : (k : Refusal) → number k ≡ 10 → ⊥
+number-not-ten k = in-table k .0 .1 .1
 
 -- no two refusals have the same number
 pub number-once : (k k′ : Refusal) → number k ≡ number k′ → k ≡ k′

@@ -1,9 +1,9 @@
--- When the planner says no: the table's numbers and words.
+-- When the planner says no: the table's numbers and words. No refusal has the number 10.
 use Prim.Native.Nat.{ℕ}
 use mathlib.Core.List.{List, [], _∷_}
 
 pub data Refusal : Type 0 where
-  short version counts layout field apart counts-fail stuck no-retiming list-stuck room hand negative slow token : Refusal
+  short version counts layout field apart counts-fail stuck no-retiming room hand negative slow token : Refusal
 
 abbrev pub number : Refusal → ℕ
 number short = 1
@@ -15,7 +15,6 @@ number apart = 6
 number counts-fail = 7
 number stuck = 8
 number no-retiming = 9
-number list-stuck = 10
 number room = 11
 number hand = 12
 number negative = 13
@@ -33,7 +32,6 @@ word apart = 97 ∷ 112 ∷ 97 ∷ 114 ∷ 116 ∷ []
 word counts-fail = 99 ∷ 111 ∷ 117 ∷ 110 ∷ 116 ∷ 115 ∷ 45 ∷ 102 ∷ 97 ∷ 105 ∷ 108 ∷ []
 word stuck = 115 ∷ 116 ∷ 117 ∷ 99 ∷ 107 ∷ []
 word no-retiming = 110 ∷ 111 ∷ 45 ∷ 114 ∷ 101 ∷ 116 ∷ 105 ∷ 109 ∷ 105 ∷ 110 ∷ 103 ∷ []
-word list-stuck = 108 ∷ 105 ∷ 115 ∷ 116 ∷ 45 ∷ 115 ∷ 116 ∷ 117 ∷ 99 ∷ 107 ∷ []
 word room = 114 ∷ 111 ∷ 111 ∷ 109 ∷ []
 word hand = 104 ∷ 97 ∷ 110 ∷ 100 ∷ []
 word negative = 110 ∷ 101 ∷ 103 ∷ 97 ∷ 116 ∷ 105 ∷ 118 ∷ 101 ∷ []

@@ -15,7 +15,9 @@ use Rattle.dataflow.specs.Sheet.{Below}
 use Rattle.dataflow.proofs.EndLaws.{searched-once, rounds-once}
 use Rattle.dataflow.proofs.ListLaws.{list-run, list-fired, round-length}
 use Rattle.dataflow.proofs.PathLaws.{period-once}
-use Rattle.dataflow.proofs.StuckLaws.{legal-fires}
+use Rattle.dataflow.specs.Stuck.{Stuck}
+use Rattle.dataflow.proofs.StuckLaws.{stuck-cannot-fire}
+use Rattle.dataflow.proofs.NotStuckLaws.{round-list-completes}
 use Rattle.dataflow.proofs.WholeLaws.{retimed-is}
 use Rattle.chain.specs.Chain.{CountedChain, netOf, delaysOf}
 use Rattle.firing.specs.Times.{Ordered}
@@ -48,7 +50,8 @@ module _ (n m : ℕ) (source sink produced consumed delay time q : List ℕ) (to
   -- an order in which the retimed round can be fired
   new-order : (r : Found) → Accepts r → (l : List ℕ) × Ordered n m source sink produced consumed (r .delay) time q total l
   new-order r h =
-      let f = legal-fires G W d (record { order = take total list; run = o .run; all-fired = o .whole }) (whole (at (r .retiming))) (h .retiming .serves .legal) in
+      let free : ¬ Stuck G d = λ s. stuck-cannot-fire G W d s (record { order = take total list; run = o .run; all-fired = o .whole }) in
+      let f = round-list-completes G W d free (whole (at (r .retiming))) (h .retiming .serves .legal) in
       let D = retimed-is G d (at (r .retiming)) (delaysOf m (r .delay)) (new-delays c h) in
       let l = subst (λ (x : Below m → ℕ). RoundList G x (f .0)) D (f .1) in
       let e = round-length G (delaysOf m (r .delay)) (f .0) l in

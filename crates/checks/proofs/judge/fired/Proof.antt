@@ -23,7 +23,7 @@ fire-list-requires c κs =
     let t = c .before .before .before .before .before .before .before .before .before .before .before in
     let d = t .before .before in
     let a = d .before .before .before .before .before .before .before .pre in
-    (a .0 .chain, (t .threads .ensures, ((λ e. rw (d .wide-delays .ensures) (omega (arith, a .1 .1 .most e))), round-wanted (a .0))))
+    (a .0 .chain, (t .threads .ensures, ((λ e. rw (d .wide-delays .ensures) (omega (arith, a .1 .1 .most e))), (round-wanted (a .0), a .0 .few))))
 
 refused-requires : tie.Need-refused-requires
 refused-requires c κs = search needs

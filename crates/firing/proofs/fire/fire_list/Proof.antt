@@ -1,9 +1,8 @@
 use Prim.Native.Nat.{_-_, _≤_, _<_}
 use mathlib.Core.Path.{_≡_}
-use mathlib.Core.Logic.{⊎-elim}
 use native.Mathlib.Omega.{arith}
 use borrow.Author.Needs.{needs}
-use Rattle.firing.proofs.FireLaws.{SoFar, none-fired, fired-few, kept-length, fired-stored, fired-unstored, stalled, completed}
+use Rattle.firing.proofs.FireLaws.{SoFar, none-fired, fired-few, kept-length, one-more, stalled, completed}
 use Rattle.firing.proofs.fire.fire_list.Statement.{statement}
 use Rattle.firing.proofs.fire.fire_list.Tie as tie
 
@@ -28,7 +27,7 @@ ready-requires : tie.Need-ready-requires Inv-loop μ-loop
 ready-requires c κs =
     let l = c .before .before in
     let p = l .before .before .pre in
-    (p .0, (p .1 .0, record { delays = p .1 .1 .0; firings = fired-few _ _ _ _ _ _ _ _ _ _ (l .loop .inv .1) (p .1 .1 .1) }))
+    (p .0, (p .1 .0, record { delays = p .1 .1 .0; firings = fired-few _ _ _ _ _ _ _ _ _ _ (l .loop .inv .1) (p .1 .1 .1 .0) }))
 
 same-length : tie.Need-same-length Inv-loop μ-loop
 same-length c = let l = c .before .before .before .before in kept-length _ _ _ _ _ _ _ _ _ _ (l .loop .inv .1)
@@ -38,33 +37,36 @@ returns c =
     let i = c .before .before .before in
     let l = i .before in
     let a = l .before .before in
-    stalled _ _ _ _ _ _ _ _ _ _ (l .loop .inv .1) (i .loop-test .taken) (rw (c .if1 .taken) at (c .before .ready .ensures)) (a .pre .1 .1 .1)
+    stalled _ _ _ _ _ _ _ _ _ _ (l .loop .inv .1) (i .loop-test .taken) (rw (c .if1 .taken) at (c .before .ready .ensures)) (a .pre .1 .1 .1 .0)
 
 cast-list : tie.Need-cast-list Inv-loop μ-loop
-cast-list c = omega (arith, within (c .before), few (c .before))
+cast-list c = omega (arith, within c, few c)
 
 mul-list : tie.Need-mul-list Inv-loop μ-loop
 mul-list c = search needs
 
 slice-write-list : tie.Need-slice-write-list Inv-loop μ-loop
-slice-write-list c = search needs
+slice-write-list c =
+    let i = c .before .before .before in
+    let l = i .before in
+    omega (arith, i .loop-test .taken, kept-length _ _ _ _ _ _ _ _ _ _ (l .loop .inv .1), l .before .before .pre .1 .1 .1 .1)
 
 mul-fired : tie.Need-mul-fired Inv-loop μ-loop
 mul-fired c = search needs
 
 array-read-fired : tie.Need-array-read-fired Inv-loop μ-loop
-array-read-fired c = omega (arith, within (c .before), few (c .before))
+array-read-fired c = omega (arith, within c, few c)
 
 add-fired : tie.Need-add-fired Inv-loop μ-loop
 add-fired c =
-    let l = c .before .before .before .before .before in
-    omega (arith, fired-few _ _ _ _ _ _ _ _ _ _ (l .loop .inv .1) (l .before .before .pre .1 .1 .1) (c .before .before .ready .result))
+    let l = c .before .before .before .before in
+    omega (arith, fired-few _ _ _ _ _ _ _ _ _ _ (l .loop .inv .1) (l .before .before .pre .1 .1 .1 .0) (c .before .ready .result))
 
 mul-fired-2 : tie.Need-mul-fired-2 Inv-loop μ-loop
 mul-fired-2 c = search needs
 
 array-write-fired : tie.Need-array-write-fired Inv-loop μ-loop
-array-write-fired c = omega (arith, within (c .before), few (c .before))
+array-write-fired c = omega (arith, within c, few c)
 
 add-k : tie.Need-add-k Inv-loop μ-loop
 add-k c = search needs
@@ -74,15 +76,10 @@ loop-less c = search needs
 
 loop-again : tie.Need-loop-again Inv-loop μ-loop
 loop-again c =
-    let r = c .before .before in
+    let r = c .before in
     let i = r .before .before in
-    let l = i .before in (
-      search needs,
-      ⊎-elim
-          (λ x. rw (x .1) (fired-stored _ _ _ _ _ _ _ _ _ _ (l .loop .inv .1) _ (within (c .before)) (few (c .before)) (r .ready .ensures) (x .0 .taken)))
-          (λ x. rw (x .1) (fired-unstored _ _ _ _ _ _ _ _ _ _ (l .loop .inv .1) _ (within (c .before)) (few (c .before)) (r .ready .ensures) (x .0 .left)))
-          (c .if2 .came),
-    )
+    let l = i .before in
+    (search needs, one-more _ _ _ _ _ _ _ _ _ _ (l .loop .inv .1) _ (within c) (few c) (r .ready .ensures))
 
 same-length-2 : tie.Need-same-length-2 Inv-loop μ-loop
 same-length-2 c = kept-length _ _ _ _ _ _ _ _ _ _ (c .before .loop .inv .1)
@@ -92,7 +89,7 @@ returns-2 c =
     let l = c .before in
     let a = l .before .before in
     let all : l .loop .k ≡ a .args .total = omega arith in
-    completed _ _ _ _ _ _ _ _ _ _ (rw all at (l .loop .inv .1)) (a .pre .1 .1 .1)
+    completed _ _ _ _ _ _ _ _ _ _ (rw all at (l .loop .inv .1)) (a .pre .1 .1 .1 .0)
 
 pub fire-list-spec : {M : Type 1} → statement M
 fire-list-spec =

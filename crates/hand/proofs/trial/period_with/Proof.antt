@@ -16,7 +16,8 @@ fire-list-requires : tie.Need-fire-list-requires
 fire-list-requires c κs =
     let b = c .before .before .before .before .before .before .before .before .before in
     let p = b .before .before .before .before .before .before .before .before .before .before .pre in
-    (p .ready .chain, (p .ready .threads, (p .small, round-wanted (ready-counted (p .ready)))))
+    let k = ready-counted (p .ready) in
+    (p .ready .chain, (p .ready .threads, (p .small, (round-wanted k, k .few))))
 
 time-table-requires : tie.Need-time-table-requires
 time-table-requires c κs =

@@ -13,7 +13,7 @@ returns : tie.Need-returns
 returns c =
     let l = c .before .before in
     let p = l .before .before .before .pre in
-    list-written (p .0 .wants) (l .fire-list .ensures) (p .1 .0) (p .1 .1 .0) (p .1 .1 .1)
+    list-written (p .0 .wants) (l .fire-list .ensures) (p .1 .0) (p .1 .1)
 
 pub write-list-spec : {M : Type 1} → statement M
 write-list-spec = tie.close (tie.spec fire-list-requires same-length returns)

@@ -10,25 +10,25 @@ refused-requires : tie.Need-refused-requires
 refused-requires c κs = search needs
 
 returns : tie.Need-returns
-returns c = answer-refused 11 0 (λ e. omega arith) (short-refused (c .before .before .before .before .before .pre .begun) _ _ _ (inl (c .before .if1 .taken))) (c .refused .ensures)
+returns c = answer-refused 11 0 (λ e. omega arith) (short-refused (c .before .before .before .before .before .pre) _ _ _ (inl (c .before .if1 .taken))) (c .refused .ensures)
 
 refused-requires-2 : tie.Need-refused-requires-2
 refused-requires-2 c κs = search needs
 
 returns-2 : tie.Need-returns-2
-returns-2 c = answer-refused 11 0 (λ e. omega arith) (short-refused (c .before .before .before .before .before .before .before .pre .begun) _ _ _ (inr (inl (c .before .if2 .taken)))) (c .refused2 .ensures)
+returns-2 c = answer-refused 11 0 (λ e. omega arith) (short-refused (c .before .before .before .before .before .before .before .pre) _ _ _ (inr (inl (c .before .if2 .taken)))) (c .refused2 .ensures)
 
 refused-requires-3 : tie.Need-refused-requires-3
 refused-requires-3 c κs = search needs
 
 returns-3 : tie.Need-returns-3
-returns-3 c = answer-refused 11 0 (λ e. omega arith) (short-refused (c .before .before .before .before .before .before .before .before .before .pre .begun) _ _ _ (inr (inr (c .before .if3 .taken)))) (c .refused3 .ensures)
+returns-3 c = answer-refused 11 0 (λ e. omega arith) (short-refused (c .before .before .before .before .before .before .before .before .before .pre) _ _ _ (inr (inr (c .before .if3 .taken)))) (c .refused3 .ensures)
 
 write-requires : tie.Need-write-requires
 write-requires c κs = search needs
 
 shown-requires : tie.Need-shown-requires
-shown-requires c κs = c .before .before .before .before .before .before .before .before .before .before .before .before .before .before .before .before .before .before .pre .begun .retimed .ready .chain .few-queues
+shown-requires c κs = c .before .before .before .before .before .before .before .before .before .before .before .before .before .before .before .before .before .before .pre .retimed .ready .chain .few-queues
 
 same-length : tie.Need-same-length
 same-length c = search needs

@@ -20,8 +20,8 @@ returns c =
     let s = c .before .before .before in
     answer-refused 9 0 (λ e. omega arith) (none-serve (s .before .before .before .before .before .before .before .before .before .before .before .before .before .before .before .before .before .before .before .before .before .before .before .before .pre) (s .search .ensures .none (not-true _ (c .before .if1 .taken)))) (c .refused .ensures)
 
-listed-requires : tie.Need-listed-requires
-listed-requires c κs =
+begun-requires : tie.Need-begun-requires
+begun-requires c κs =
     let e = c .before .before .before in
     let s = e .before .before in
     record { ready = s .before .before .before .before .before .before .before .before .before .before .before .before .before .before .before .before .before .before .before .before .before .before .before .before .pre; retimes = s .search .ensures .found (not-false _ (e .if1 .left)) }
@@ -40,7 +40,7 @@ returns-2 c =
     let l = c .before .before .before .before .before .before in
     let e = l .before .before .before .before in
     let s = e .before .before in
-    passes (planKind _ _ _) (serve-passed (record { ready = s .before .before .before .before .before .before .before .before .before .before .before .before .before .before .before .before .before .before .before .before .before .before .before .before .pre; retimes = s .search .ensures .found (not-false _ (e .if1 .left)) })) (l .listed .ensures)
+    passes (planKind _ _ _) (serve-passed (record { ready = s .before .before .before .before .before .before .before .before .before .before .before .before .before .before .before .before .before .before .before .before .before .before .before .before .pre; retimes = s .search .ensures .found (not-false _ (e .if1 .left)) })) (l .begun .ensures)
 
 pub searched-spec : {M : Type 1} → statement M
 searched-spec =
@@ -49,7 +49,7 @@ searched-spec =
     search-requires
     refused-requires
     returns
-    listed-requires
+    begun-requires
     same-length
     same-length-2
     same-length-3

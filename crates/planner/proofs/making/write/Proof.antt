@@ -1,16 +1,17 @@
 use borrow.Author.Needs.{needs}
+use Rattle.planner.proofs.ListingLaws.{round-completes, start-completes}
 use Rattle.planner.proofs.WorkLaws.{round-fireable, start-fireable}
 use Rattle.planner.proofs.making.write.Statement.{statement}
 use Rattle.planner.proofs.making.write.Tie as tie
 
 write-list-requires : tie.Need-write-list-requires
-write-list-requires c κs = let p = c .before .before .before .before .before .before .before .before .before .before .before .before .before .before .before .before .before .before .before .before .before .before .pre in (start-fireable (p .0 .begun), (p .1 .start-room, p .0 .start))
+write-list-requires c κs = let p = c .before .before .before .before .before .before .before .before .before .before .before .before .before .before .before .before .before .before .before .before .before .before .pre in (start-fireable (p .0), (p .1 .start-room, start-completes (p .0)))
 
 write-list-requires-2 : tie.Need-write-list-requires-2
-write-list-requires-2 c κs = let p = c .before .before .before .before .before .before .before .before .before .before .before .before .before .before .before .before .before .before .before .before .before .before .before .before .before .before .before .before .before .before .before .before .before .before .pre in (round-fireable (p .0 .begun .retimed), (p .1 .round-room, p .0 .round))
+write-list-requires-2 c κs = let p = c .before .before .before .before .before .before .before .before .before .before .before .before .before .before .before .before .before .before .before .before .before .before .before .before .before .before .before .before .before .before .before .before .before .before .pre in (round-fireable (p .0 .retimed), (p .1 .round-room, round-completes (p .0 .retimed)))
 
 write-times-requires : tie.Need-write-times-requires
-write-times-requires c κs = let p = c .before .before .before .before .before .before .before .before .before .before .before .before .before .before .before .before .before .before .before .before .before .before .before .before .before .before .before .before .before .before .before .before .before .before .before .before .before .before .before .pre in (p .0 .begun .retimed .ready .few, p .1 .times-room)
+write-times-requires c κs = let p = c .before .before .before .before .before .before .before .before .before .before .before .before .before .before .before .before .before .before .before .before .before .before .before .before .before .before .before .before .before .before .before .before .before .before .before .before .before .before .before .pre in (p .0 .retimed .ready .few, p .1 .times-room)
 
 same-length : tie.Need-same-length
 same-length c = search needs

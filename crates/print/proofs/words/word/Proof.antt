@@ -1,7 +1,7 @@
 use mathlib.Core.Path.{refl}
 use native.Mathlib.Omega.{arith}
-use Rattle.refusals.specs.Table.{short, version, counts, layout, field, apart, counts-fail, stuck, no-retiming, list-stuck, room, hand, negative, slow, token}
-use Rattle.print.proofs.SpelledLaws.{spelled, NoneOf, spelled-none}
+use Rattle.refusals.specs.Table.{short, version, counts, layout, field, apart, counts-fail, stuck, no-retiming, room, hand, negative, slow, token}
+use Rattle.print.proofs.SpelledLaws.{spelled, NoneBehind, spelled-none}
 use Rattle.print.proofs.words.word.Statement.{statement}
 use Rattle.print.proofs.words.word.Tie as tie
 
@@ -33,26 +33,23 @@ returns-9 : tie.Need-returns-9
 returns-9 c = spelled no-retiming (omega arith) (omega arith) refl
 
 returns-10 : tie.Need-returns-10
-returns-10 c = spelled list-stuck (omega arith) (omega arith) refl
+returns-10 c = spelled room (omega arith) (omega arith) refl
 
 returns-11 : tie.Need-returns-11
-returns-11 c = spelled room (omega arith) (omega arith) refl
+returns-11 c = spelled hand (omega arith) (omega arith) refl
 
 returns-12 : tie.Need-returns-12
-returns-12 c = spelled hand (omega arith) (omega arith) refl
+returns-12 c = spelled negative (omega arith) (omega arith) refl
 
 returns-13 : tie.Need-returns-13
-returns-13 c = spelled negative (omega arith) (omega arith) refl
+returns-13 c = spelled slow (omega arith) (omega arith) refl
 
 returns-14 : tie.Need-returns-14
-returns-14 c = spelled slow (omega arith) (omega arith) refl
+returns-14 c = spelled token (omega arith) (omega arith) refl
 
 returns-15 : tie.Need-returns-15
-returns-15 c = spelled token (omega arith) (omega arith) refl
-
-returns-16 : tie.Need-returns-16
-unfolding NoneOf
-returns-16 c = spelled-none (c .before .before .match .rest) refl
+unfolding NoneBehind
+returns-15 c = spelled-none (c .before .before .match .rest) refl
 
 pub word-spec : {M : Type 1} → statement M
 word-spec =
@@ -72,5 +69,4 @@ word-spec =
     returns-12
     returns-13
     returns-14
-    returns-15
-    returns-16)
+    returns-15)
