@@ -8,7 +8,8 @@ use crate::ready::{self, Ready};
 use crate::refusal::Refusal;
 use crate::search::{self, Found};
 
-/// Request P10. A list that stalled all the same would end the program, and with it the comparison.
+/// By request P10. A list that stalled all the same would end the program, and with it the
+/// comparison.
 const NEVER_STALLS: &str = "the lists of a legal retiming can be completed";
 
 pub struct Plan {

@@ -26,7 +26,7 @@ module _ (n m : ℕ) (source sink produced consumed delay wanted : List ℕ) whe
   abbrev pub ListOf : List ℕ → Type 0
   ListOf l = (time q : List ℕ) → IsList time q l
 
-  -- there is such a list; the times and the counts may be any
+  -- there is such a list, for some times and counts
   abbrev pub Completes : Type 0
   Completes = (time : List ℕ) × (q : List ℕ) × (l : List ℕ) × IsList time q l
 

@@ -1,5 +1,5 @@
 use borrow.Author.Needs.{needs}
-use Rattle.planner.proofs.ListingLaws.{round-completes, start-completes}
+use Rattle.planner.proofs.CompleteLaws.{round-completes, start-completes}
 use Rattle.planner.proofs.WorkLaws.{round-fireable, start-fireable}
 use Rattle.planner.proofs.making.write.Statement.{statement}
 use Rattle.planner.proofs.making.write.Tie as tie
