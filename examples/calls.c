@@ -104,7 +104,8 @@ static void try_plan(void) {
   expect(p.number == TASSELBROOK_ACCEPTED && p.n == 2 && p.m == 2 && p.period == 3, "plan accepts");
   expect(p.rounds == 1 && p.back == 1 && p.starts == 2 && p.total == 3, "plan numbers");
   expect(p.tag[1] == 2 && p.q[0] == 2 && p.retiming[1] == 1 && p.start[0] == 2, "plan stations");
-  expect(p.delay[0] == 2 && p.delay[1] == 2 && p.room[1] == 4 && p.room[2] == 0, "plan queues");
+  expect(p.delay[0] == 2 && p.delay[1] == 2 && p.delay[2] == 0, "plan delays");
+  expect(p.room[0] == 4 && p.room[1] == 4 && p.room[2] == 0, "plan rooms");
   expect(start[0] == 0 && start[1] == 0 && untouched(start + 2, 4), "plan start list");
   expect(round[1] == 0 && round[2] == 1 && untouched(round + 3, 2), "plan round list");
   expect(times[0] == 0 && times[2] == 0 && untouched(times + 3, 4), "plan time table");

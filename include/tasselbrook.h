@@ -60,6 +60,10 @@ enum tasselbrook_refusal {
 };
 
 /* A plan. Entries past n stations and m queues are 0.
+ * A queue's room is the most tokens that it holds, at the start or after any firing, when the start
+ * list is fired from the sheet's delays and then the round list once, one station at a time. A
+ * firing takes, then puts; tokens are counted when both are done. Further rounds never need more.
+ * For firings side by side by the time table this room isn't promised: a queue may then hold more.
  * Size 1,024; offsets 0, 4, 8, 16, 24, 32, 40, 48, 56, 64, 128, 256, 384, 512, 768. */
 struct tasselbrook_planning {
   uint32_t number;                          /* a refusal's number, or 0 */
@@ -76,7 +80,7 @@ struct tasselbrook_planning {
   uint32_t retiming[TASSELBROOK_STATIONS];  /* its retiming */
   uint32_t start[TASSELBROOK_STATIONS];     /* its firings in the start list */
   uint32_t delay[TASSELBROOK_QUEUES];       /* each queue's new delay */
-  uint32_t room[TASSELBROOK_QUEUES];        /* the larger of its delay and its new delay */
+  uint32_t room[TASSELBROOK_QUEUES];        /* its room, as above */
 };
 
 /* The numbers of a sheet. Entries past n stations and m queues are 0.

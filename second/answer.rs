@@ -20,6 +20,7 @@ mod read;
 mod ready;
 mod refusal;
 mod retiming;
+mod rooms;
 mod search;
 mod sheet;
 mod stream;

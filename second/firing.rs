@@ -25,7 +25,8 @@ fn has_tokens(sheet: &Sheet, tokens: &[usize], station: usize) -> bool {
     })
 }
 
-fn fire(sheet: &Sheet, tokens: &mut [usize], station: usize) {
+/// Takes, then puts.
+pub fn fire(sheet: &Sheet, tokens: &mut [usize], station: usize) {
     for (queue, tokens) in sheet.queues.iter().zip(tokens) {
         if usize::from(queue.sink) == station {
             *tokens -= usize::from(queue.consumed);

@@ -6,6 +6,7 @@ use crate::finishes;
 use crate::firing;
 use crate::ready::{self, Ready};
 use crate::refusal::Refusal;
+use crate::rooms;
 use crate::search::{self, Found};
 
 /// By request P10. A list that stalled all the same would end the program, and with it the
@@ -18,6 +19,7 @@ pub struct Plan {
     pub back: usize,
     /// How often the start list fires each station.
     pub start_firings: Vec<usize>,
+    pub rooms: Vec<usize>,
     pub start: Vec<usize>,
     pub round: Vec<usize>,
     pub times: Vec<u64>,
@@ -38,7 +40,8 @@ pub fn plan(bytes: &[u8], buffers: &mut Buffers) -> Result<Plan, Refusal> {
         return Err(Refusal::Room);
     }
     buffers.write(&start, &round, &times);
-    Ok(Plan { ready, found, back, start_firings, start, round, times })
+    let rooms = rooms::of(sheet, &start, &round);
+    Ok(Plan { ready, found, back, start_firings, rooms, start, round, times })
 }
 
 /// The least number of rounds in which every station fires at least as often as it was raised.

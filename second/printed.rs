@@ -13,8 +13,7 @@ pub fn lines(plan: &Plan) -> String {
             station.tag, ready.counts[number], found.retiming[number], plan.start_firings[number]
         ));
     }
-    for (number, (before, delay)) in ready.sheet.delays().iter().zip(&found.delays).enumerate() {
-        let room = before.max(delay);
+    for (number, (delay, room)) in found.delays.iter().zip(&plan.rooms).enumerate() {
         text.push_str(&format!("queue {number} delay {delay} room {room}\n"));
     }
     text.push_str(&list("start", &plan.start));

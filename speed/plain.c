@@ -23,11 +23,13 @@ struct station {
     unsigned count;
     unsigned base; /* the place of its first copy in the time table */
     unsigned into; /* the lowest queue into it, or m */
+    unsigned out;  /* the lowest queue out of it, or m */
 };
 
 struct queue {
     unsigned source, sink, produced, consumed;
-    unsigned next; /* the next queue into the same sink, or m */
+    unsigned next_in;  /* the next queue into the same sink, or m */
+    unsigned next_out; /* the next queue out of the same source, or m */
 };
 
 struct sheet {
@@ -52,6 +54,7 @@ struct plan {
     unsigned retiming[MOST_STATIONS];
     unsigned firings[MOST_STATIONS];
     unsigned delay[MOST_QUEUES];
+    unsigned room[MOST_QUEUES];
 };
 
 static unsigned u16_at(const unsigned char *s)
@@ -168,21 +171,25 @@ static bool find_counts(struct sheet *sheet)
     return false;
 }
 
-/* Threads the queues into each station, and finds where its copies begin in the time table. */
+/* Threads the queues into each station and out of it, and finds where its copies begin in the time
+ * table. */
 static void thread_queues(struct sheet *sheet)
 {
     unsigned base = 0;
     for (unsigned v = 0; v < sheet->n; v++) {
         struct station *station = &sheet->station[v];
-        station->into = sheet->m;
+        station->into = station->out = sheet->m;
         station->base = base;
         base += station->count;
     }
     for (unsigned e = sheet->m; e-- > 0;) {
         struct queue *queue = &sheet->queue[e];
         struct station *sink = &sheet->station[queue->sink];
-        queue->next = sink->into;
+        struct station *source = &sheet->station[queue->source];
+        queue->next_in = sink->into;
         sink->into = e;
+        queue->next_out = source->out;
+        source->out = e;
     }
 }
 
@@ -190,7 +197,7 @@ static void thread_queues(struct sheet *sheet)
 static bool has_tokens(const struct sheet *sheet, const unsigned *delay, const unsigned *fired,
                        unsigned v)
 {
-    for (unsigned e = sheet->station[v].into; e < sheet->m; e = sheet->queue[e].next) {
+    for (unsigned e = sheet->station[v].into; e < sheet->m; e = sheet->queue[e].next_in) {
         const struct queue *queue = &sheet->queue[e];
         if (delay[e] + fired[queue->source] * queue->produced < (fired[v] + 1) * queue->consumed)
             return false;
@@ -238,7 +245,7 @@ static unsigned start_of(const struct sheet *sheet, const unsigned *delay, const
                          unsigned v, unsigned fired)
 {
     unsigned latest = 0;
-    for (unsigned e = sheet->station[v].into; e < sheet->m; e = sheet->queue[e].next) {
+    for (unsigned e = sheet->station[v].into; e < sheet->m; e = sheet->queue[e].next_in) {
         const struct queue *queue = &sheet->queue[e];
         unsigned needed = (fired + 1) * queue->consumed;
         if (needed <= delay[e])
@@ -359,6 +366,51 @@ static void find_starts(const struct sheet *sheet, struct plan *plan)
     }
 }
 
+/* Lifts the room of each queue out of v to at least what it holds after these firings. */
+static void lift_from(const struct sheet *sheet, const unsigned *delay, unsigned v,
+                      const unsigned *fired, unsigned *room)
+{
+    for (unsigned e = sheet->station[v].out; e < sheet->m; e = sheet->queue[e].next_out) {
+        const struct queue *queue = &sheet->queue[e];
+        unsigned fill =
+            delay[e] + fired[v] * queue->produced - fired[queue->sink] * queue->consumed;
+        if (room[e] < fill)
+            room[e] = fill;
+    }
+}
+
+/* The place behind the entries from this one on that name the same station. */
+static unsigned stretch_end(const uint16_t *list, unsigned count, unsigned from)
+{
+    unsigned end = from + 1;
+    while (end < count && list[end] == list[from])
+        end++;
+    return end;
+}
+
+/* Lifts each room to at least what its queue holds after any firing of the list: a queue is fullest
+ * before or behind a stretch of firings of one station, and holds more only behind one of its
+ * source. */
+static void lift_over(const struct sheet *sheet, const unsigned *delay, const uint16_t *list,
+                      unsigned count, unsigned *room)
+{
+    unsigned fired[MOST_STATIONS] = {0};
+    for (unsigned k = 0; k < count;) {
+        unsigned v = list[k], end = stretch_end(list, count, k);
+        fired[v] += end - k;
+        lift_from(sheet, delay, v, fired, room);
+        k = end;
+    }
+}
+
+/* The most that each queue holds over both lists of the plan. */
+static void find_rooms(const struct sheet *sheet, const struct lent *lent, struct plan *plan)
+{
+    memcpy(plan->room, sheet->delay, sheet->m * sizeof *plan->room);
+    lift_over(sheet, sheet->delay, lent->start, plan->starts, plan->room);
+    lift_over(sheet, plan->delay, lent->round, sheet->total, plan->room);
+}
+
 /* Checks 1 to 8. Leaves the sheet and its round list. */
 static unsigned check(const unsigned char *s, size_t size, struct sheet *sheet, uint16_t *list,
                       unsigned *place)
@@ -399,6 +451,7 @@ static unsigned make_plan(const unsigned char *s, size_t size, const struct lent
     fire_list(sheet, sheet->delay, plan->firings, plan->starts, lent->start);
     fire_round(sheet, plan->delay, lent->round);
     memcpy(lent->times, times, sheet->total * sizeof *times);
+    find_rooms(sheet, lent, plan);
     return 0;
 }
 
@@ -474,14 +527,12 @@ static void print_stations(const struct sheet *sheet, const struct plan *plan)
     }
 }
 
-/* The room of a queue is the larger of its two delays. */
 static void print_queues(const struct sheet *sheet, const struct plan *plan)
 {
     for (unsigned e = 0; e < sheet->m; e++) {
-        unsigned old = sheet->delay[e], new = plan->delay[e];
         print_number("queue ", e);
-        print_number(" delay ", new);
-        print_number(" room ", old < new ? new : old);
+        print_number(" delay ", plan->delay[e]);
+        print_number(" room ", plan->room[e]);
         print_text("\n");
     }
 }

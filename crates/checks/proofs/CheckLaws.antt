@@ -31,7 +31,7 @@ use Rattle.sheet.specs.Format.{sheetOf}
 use Rattle.sheet.specs.Read.{readRows, Reads}
 use Rattle.chain.specs.Chain.{Chain, DelaysGiven, CountedChain, delaysOf}
 use Rattle.chain.proofs.ChainLaws.{sound}
-use Rattle.firing.specs.Into.{Threads}
+use Rattle.firing.specs.Thread.{Threads}
 use Rattle.firing.specs.Fire.{Fires}
 use Rattle.firing.specs.Times.{Ordered}
 use Rattle.firing.proofs.FireLaws.{written}

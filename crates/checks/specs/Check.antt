@@ -17,7 +17,7 @@ use Rattle.sheet.specs.declared.Sheet.{Sheet}
 use Rattle.sheet.specs.Format.{sheetOf}
 use Rattle.sheet.specs.Read.{readRows, blank}
 use Rattle.chain.specs.Chain.{Chain, DelaysGiven}
-use Rattle.firing.specs.Into.{Threads}
+use Rattle.firing.specs.Thread.{Threads}
 use Rattle.checks.specs.declared.Checked.{Checked}
 
 -- a sheet that was read, as the dataflow definitions take it

@@ -9,7 +9,7 @@ use lib.ListN.{replicate}
 use Rattle.dataflow.specs.Net.{Net, Sound}
 use Rattle.dataflow.specs.Runs.{whenever}
 use Rattle.dataflow.specs.Lists.{RoundList, FedBy, firedBy, Prefix, none}
-use Rattle.dataflow.proofs.PrefixLaws.{fired-more, prefix-next, prefix-length, prefix-whole}
+use Rattle.dataflow.proofs.PrefixLaws.{fired-again, prefix-next, prefix-length, prefix-whole}
 use Rattle.dataflow.proofs.SumLaws.{sum-same}
 
 -- each of the first n stations, as often as its count
@@ -21,28 +21,15 @@ module _ (G : Net) (D : G .Queue → ℕ) where
   one-more : (l : List ℕ) (k v : ℕ) → l ++ replicate (suc k) v ≡ (l ++ (v ∷ [])) ++ replicate k v
   one-more l k v = sym (append-assoc l (v ∷ []) (replicate k v))
 
-  -- v is fired k times more
-  fired-again : (l : List ℕ) (k v w : ℕ) → firedBy G D (l ++ replicate k v) w ≡ firedBy G D l w + whenever (ℕ-discrete w v) k
-  fired-again l zero v w = rw (append-nil l) (go (ℕ-discrete w v))
-    where
-      go : (x : Dec (w ≡ v)) → firedBy G D l w ≡ firedBy G D l w + whenever x 0
-      go (yes x) = omega arith
-      go (no x) = omega arith
-  fired-again l (suc k) v w = ap (λ (m : List ℕ). firedBy G D m w) (one-more l k v) ∙ fired-again (l ++ (v ∷ [])) k v w ∙ rw (fired-more G D l v w) (go (ℕ-discrete w v))
-    where
-      go : (x : Dec (w ≡ v)) → firedBy G D l w + whenever x 1 + whenever x k ≡ firedBy G D l w + whenever x (suc k)
-      go (yes x) = omega arith
-      go (no x) = omega arith
-
   fired-own : (l : List ℕ) (k v : ℕ) → firedBy G D (l ++ replicate k v) v ≡ firedBy G D l v + k
-  fired-own l k v = fired-again l k v v ∙ go (ℕ-discrete v v)
+  fired-own l k v = fired-again G D l k v v ∙ go (ℕ-discrete v v)
     where
       go : (x : Dec (v ≡ v)) → firedBy G D l v + whenever x k ≡ firedBy G D l v + k
       go (yes x) = refl
       go (no x) = absurd (x refl)
 
   fired-other : (l : List ℕ) (k v w : ℕ) → (w ≡ v → ⊥) → firedBy G D (l ++ replicate k v) w ≡ firedBy G D l w
-  fired-other l k v w n = fired-again l k v w ∙ go (ℕ-discrete w v)
+  fired-other l k v w n = fired-again G D l k v w ∙ go (ℕ-discrete w v)
     where
       go : (x : Dec (w ≡ v)) → firedBy G D l w + whenever x k ≡ firedBy G D l w
       go (yes x) = absurd (n x)

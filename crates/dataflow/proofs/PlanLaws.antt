@@ -1,5 +1,6 @@
 -- A plan exists wherever any whole numbers serve a sheet that isn't stuck, and there is no second.
-use mathlib.Core.Path.{_≡_, refl, sym, ap, ap₂, _∙_, fun-ext}
+use mathlib.Core.Path.{_≡_, sym, ap, ap₂, fun-ext}
+use mathlib.Core.List.{_++_}
 use Prim.Native.Nat.{ℕ, zero, suc, _+_, _-_, _*_, _≤_, _<_}
 use native.Mathlib.Nat.{mul-le-mul-left, mul-le-mul-right}
 use native.Mathlib.Omega.{arith}
@@ -13,7 +14,6 @@ use Rattle.dataflow.specs.Stuck.{Stuck, RoundFires}
 use Rattle.dataflow.specs.Retiming.{whole, retimed, Serves}
 use Rattle.dataflow.specs.Search.{Searched, nothing, raise, SearchEnds}
 use Rattle.dataflow.specs.Lists.{Covers, Back}
-use Rattle.dataflow.specs.Room.{roomOf}
 use Rattle.dataflow.specs.Promise.{Plan, PlanHolds, Promise}
 use Rattle.dataflow.proofs.Below.{upto, upto-of}
 use Rattle.dataflow.proofs.Decide.{equal, upto-dec}
@@ -29,6 +29,8 @@ use Rattle.dataflow.proofs.TimeLaws.{startBy, times-exist, times-once, 
 use Rattle.dataflow.proofs.SearchLaws.{rounds-bound}
 use Rattle.dataflow.proofs.EndLaws.{ends-at-plan, plan-exists, rounds-once}
 use Rattle.dataflow.proofs.NotStuckLaws.{round-list-completes, start-list-completes}
+use Rattle.dataflow.proofs.PeakLaws.{peakFrom, peak-once}
+use Rattle.dataflow.proofs.RoomLaws.{computed-room}
 use Rattle.dataflow.proofs.PromiseLaws.{plan-retimed, kept}
 
 -- the least number with a property that can be decided, where it holds from m on; k numbers are still to be tried
@@ -96,7 +98,7 @@ module _ (G : Net) (W : Sound G) where
             back = c .0;
             retiming = r;
             delay = D;
-            room = λ e. roomOf (d e) (D e);
+            room = λ e. peakFrom G (d e) (start .0 ++ round .0) e;
             start = start .0;
             round = round .0;
             times = startBy G F;
@@ -108,7 +110,7 @@ module _ (G : Net) (W : Sound G) where
             period = period-exists G W D F S some;
             rounds = ends;
             back = c .1;
-            room = λ e. refl;
+            room = computed-room G d (start .0) (round .0);
             start = start .1;
             round = round .1;
             times = times-exist G W D F S;
@@ -135,12 +137,12 @@ module _ (G : Net) (W : Sound G) where
     plan-once P P′ h h′ = record {
       retiming = same;
       delay = delay;
-      room = λ e. h .room e ∙ ap (roomOf (d e)) (delay e) ∙ sym (h′ .room e);
+      room = λ e. peak-once G (h .room e) (rw (sym start, sym round) at (h′ .room e));
       period = period-once G (P .delay) (P .period) (P′ .period) (h .period) (rw (sym D) at (h′ .period));
       rounds = rounds-once G W d T (h .rounds) (h′ .rounds);
       back = back;
-      start = list-once G _ (P′ .start) (h .start) (list-same G (λ v. P′ .back * G .q v - P′ .retiming v) (λ v. P .back * G .q v - P .retiming v) wanted (h′ .start));
-      round = list-once G (G .q) (P′ .round) (h .round) (rw (sym D) at (h′ .round));
+      start = start;
+      round = round;
       times = λ v i c.
           times-once G W (P .delay) _ (round-ranked G W (P .delay) (round-of-list G W (P .delay) (P .round) (h .round))) (P .times) (P′ .times) (h .times) (rw (sym D) at (h′ .times)) v i c;
     }
@@ -160,3 +162,9 @@ module _ (G : Net) (W : Sound G) where
 
         wanted : (v : ℕ) → v < G .stations → P′ .back * G .q v - P′ .retiming v ≡ P .back * G .q v - P .retiming v
         wanted v k = ap₂ (λ (x y : ℕ). x * G .q v - y) (sym back) (sym (same v k))
+
+        start : P .start ≡ P′ .start
+        start = list-once G _ (P′ .start) (h .start) (list-same G (λ v. P′ .back * G .q v - P′ .retiming v) (λ v. P .back * G .q v - P .retiming v) wanted (h′ .start))
+
+        round : P .round ≡ P′ .round
+        round = list-once G (G .q) (P′ .round) (h .round) (rw (sym D) at (h′ .round))

@@ -2,11 +2,12 @@
 use mathlib.Core.Path.{_≡_, refl, sym, ap, subst, _∙_}
 use mathlib.Core.List.{List, [], _∷_, _++_, append-assoc, append-nil}
 use mathlib.Core.Logic.{inl, inr}
-use Prim.Native.Nat.{ℕ, suc, _+_, _≤_, _<_}
+use Prim.Native.Nat.{ℕ, zero, suc, _+_, _≤_, _<_}
 use native.Mathlib.Omega.{arith}
 use native.Mathlib.Decide.{ℕ-discrete, decLt}
-use lib.ListN.{length, take, getD, length-append, List·getD-append}
-use lib.Seq.{take-append-le, take-append-seam, getD-append-seam, take-suc}
+use lib.ListN.{length, take, getD, set, replicate, length-append, List·getD-append}
+use lib.Seq.{take-append-le, take-append-seam, getD-append-seam, take-suc, getD-set-same, getD-set-other}
+use Rattle.lists.specs.Front.{at}
 use Rattle.lists.proofs.Order.{order}
 use Rattle.dataflow.specs.Net.{Net, Sound}
 use Rattle.dataflow.specs.Counts.{sum}
@@ -23,6 +24,30 @@ use Rattle.dataflow.proofs.CompleteLaws.{Stalled, short-of}
 module _ (G : Net) (D : G .Queue → ℕ) where
   pub fired-more : (l : List ℕ) (v w : ℕ) → firedBy G D (l ++ (v ∷ [])) w ≡ firedBy G D l w + whenever (ℕ-discrete w v) 1
   fired-more l v w = ap (λ (S : State G). S .fired w) (after-append G (initially G D) l (v ∷ []))
+
+  -- and a stretch of k firings of one station
+  fired-stretch : (S : State G) (k v w : ℕ) → after G S (replicate k v) .fired w ≡ S .fired w + whenever (ℕ-discrete w v) k
+  fired-stretch S zero v w = go (ℕ-discrete w v)
+    where
+      go : (x : Dec (w ≡ v)) → S .fired w ≡ S .fired w + whenever x 0
+      go (yes x) = omega arith
+      go (no x) = omega arith
+  fired-stretch S (suc k) v w = go (ℕ-discrete w v) (fired-stretch (fire G v S) k v w)
+    where
+      go : (x : Dec (w ≡ v)) → after G S (replicate (suc k) v) .fired w ≡ S .fired w + whenever x 1 + whenever x k → after G S (replicate (suc k) v) .fired w ≡ S .fired w + whenever x (suc k)
+      go (yes x) h = omega arith
+      go (no x) h = omega arith
+
+  pub fired-again : (l : List ℕ) (k v w : ℕ) → firedBy G D (l ++ replicate k v) w ≡ firedBy G D l w + whenever (ℕ-discrete w v) k
+  fired-again l k v w = ap (λ (S : State G). S .fired w) (after-append G (initially G D) l (replicate k v)) ∙ fired-stretch (after G (initially G D) l) k v w
+
+  -- the same, where the numbers of firings are kept in a list
+  pub fired-stored : (l fired : List ℕ) (v k : ℕ) → v < length fired → ((w : ℕ) → at fired w ≡ firedBy G D l w) → (w : ℕ) → at (set fired v (at fired v + k)) w ≡ firedBy G D (l ++ replicate k v) w
+  fired-stored l fired v k h is w = go (ℕ-discrete w v) ∙ sym (fired-again l k v w)
+    where
+      go : (x : Dec (w ≡ v)) → at (set fired v (at fired v + k)) w ≡ firedBy G D l w + whenever x k
+      go (yes x) = rw (x, getD-set-same fired v (at fired v + k) 0 h) (omega (arith, is v))
+      go (no x) = rw (getD-set-other fired v w (at fired v + k) 0 x) (omega (arith, is w))
 
   module _ (wanted : ℕ → ℕ) where
     pub prefix-run : {l : List ℕ} → Prefix G D wanted l → Run G (initially G D) l

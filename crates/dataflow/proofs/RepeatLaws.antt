@@ -19,7 +19,8 @@ module _ (G : Net) where
   abbrev pub SameFill : (S S′ : State G) → Type 0
   SameFill S S′ = (e : G .Queue) → length (S .holds e) ≡ length (S′ .holds e)
 
-  fill-after : (S : State G) (v : ℕ) (e : G .Queue) → length (fire G v S .holds e) ≡ length (S .holds e) - takesFrom G v e + putsOn G v e
+  -- a firing takes, then puts
+  pub fill-after : (S : State G) (v : ℕ) (e : G .Queue) → length (fire G v S .holds e) ≡ length (S .holds e) - takesFrom G v e + putsOn G v e
   fill-after S v e = length-append (drop (takesFrom G v e) (S .holds e)) _ ∙ ap₂ (λ (x y : ℕ). x + y) (length-drop (takesFrom G v e) (S .holds e)) (length-from _ 1 (putsOn G v e))
 
   pub same-fill-fire : (S S′ : State G) (v : ℕ) → SameFill S S′ → SameFill (fire G v S) (fire G v S′)

@@ -35,6 +35,9 @@ module _ (G : Net) where
   run-rest S [] m run = run
   run-rest S (v ∷ l) m (fires s r run) = run-rest (fire G v S) l m run
 
+  pub run-station : {S : State G} {v : ℕ} {l : List ℕ} → Run G S (v ∷ l) → v < G .stations
+  run-station (fires s r run) = s
+
   pub run-ready : {S : State G} {v : ℕ} {l : List ℕ} → Run G S (v ∷ l) → Ready G S v
   run-ready (fires s r run) = r
 

@@ -44,3 +44,7 @@ figure1 = sheet (10 ∷ 2 ∷ 2 ∷ []) (queue 0 1 1 1 0 ∷ queue 1 2 1 1 0 ∷
 -- One station of this time, with these queues.
 abbrev pub lone : (time : ℕ) (queues : List Queue) (T : ℕ) → Sheet
 lone time queues T = sheet (time ∷ []) queues T
+
+-- Station 0 takes from the quick station 2 and waits for the slow station 1.
+abbrev pub heldUp : Sheet
+heldUp = sheet (1 ∷ 5 ∷ 1 ∷ []) (queue 2 0 1 1 0 ∷ queue 1 0 2 1 0 ∷ []) 6

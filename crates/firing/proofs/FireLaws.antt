@@ -5,9 +5,7 @@ use mathlib.Core.List.{List, [], _∷_, _++_}
 use mathlib.Core.Bool.{Bool, true, false}
 use mathlib.Core.Logic.{⊎-elim}
 use native.Mathlib.Omega.{arith}
-use native.Mathlib.Decide.{ℕ-discrete}
 use lib.ListN.{length, set, drop, replicate, length-set, length-append}
-use lib.Seq.{getD-set-same, getD-set-other}
 use Rattle.lists.specs.Front.{at}
 use Rattle.lists.specs.Put.{put}
 use Rattle.lists.proofs.Order.{lt-or-ge}
@@ -15,12 +13,11 @@ use Rattle.lists.proofs.PutLaws.{put-nothing, put-one-more, put-front, length-p
 use Rattle.lists.proofs.StoreLaws.{at-zeros}
 use Rattle.lists.proofs.TestLaws.{differ}
 use Rattle.dataflow.specs.Net.{Net}
-use Rattle.dataflow.specs.Runs.{whenever}
 use Rattle.dataflow.specs.Sheet.{Below}
 use Rattle.dataflow.specs.Lists.{FedBy, firedBy, Prefix, none}
 use Rattle.dataflow.proofs.SumLaws.{sum-above, sum-none}
 use Rattle.dataflow.proofs.ListLaws.{list-length}
-use Rattle.dataflow.proofs.PrefixLaws.{fired-more, prefix-next, prefix-few, prefix-whole}
+use Rattle.dataflow.proofs.PrefixLaws.{fired-stored, prefix-next, prefix-few, prefix-whole}
 use Rattle.chain.specs.Chain.{netOf, delaysOf}
 use Rattle.firing.specs.Scan.{Fed, Can, LowestThatCan}
 use Rattle.firing.specs.Fire.{Wanted, Fires}
@@ -71,13 +68,6 @@ module _ (n m : ℕ) (source sink produced consumed delay : List ℕ) where
       kept-length = rw (z .stored) (length-put before 0 (z .made))
 
       module _ (v : ℕ) (here : v < n) (few : n ≤ 32) (low : LowestThatCan (Can m source sink produced consumed delay wanted fired) n v) where
-        more-is : (time q : List ℕ) (w : ℕ) → at (set fired v (at fired v + 1)) w ≡ firedBy (G time q) D (z .made ++ (v ∷ [])) w
-        more-is time q w = rw (fired-more (G time q) D (z .made) v w) (go (ℕ-discrete w v))
-          where
-            go : (x : Dec (w ≡ v)) → at (set fired v (at fired v + 1)) w ≡ firedBy (G time q) D (z .made) w + whenever x 1
-            go (yes x) = rw (x, getD-set-same fired v (at fired v + 1) 0 (omega (arith, z .wide))) (omega (arith, z .is time q v))
-            go (no x) = rw (getD-set-other fired v w (at fired v + 1) 0 x) (omega (arith, z .is time q w))
-
         -- the lowest station that can fires next and is stored
         pub one-more : SoFar (set list k v) (set fired v (at fired v + 1)) (k + 1)
         one-more = record {
@@ -88,7 +78,7 @@ module _ (n m : ℕ) (source sink produced consumed delay : List ℕ) where
           prefix = λ time q.
               prefix-next (G time q) D (at wanted) (z .prefix time q) v here (omega (arith, z .is time q v, low .can here .left)) (fed-by time q fired (firedBy (G time q) D (z .made)) (z .is time q) v (low .can here .fed))
               (λ w l a f. low .below w l (record { left = omega (arith, z .is time q w); fed = by-fed time q fired (firedBy (G time q) D (z .made)) (z .is time q) w f }));
-          is = more-is;
+          is = λ time q. fired-stored (G time q) D (z .made) fired v 1 (omega (arith, z .wide)) (z .is time q);
         }
 
       -- no station can, and some are left

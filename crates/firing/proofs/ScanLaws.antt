@@ -5,7 +5,7 @@ use mathlib.Core.List.{List}
 use native.Mathlib.Omega.{arith}
 use Rattle.lists.specs.Front.{at}
 use Rattle.lists.proofs.Order.{order}
-use Rattle.firing.specs.Into.{FirstInto}
+use Rattle.firing.specs.Thread.{FirstAt}
 use Rattle.firing.specs.Scan.{Fed}
 
 module _ (m : ℕ) (source sink produced consumed delay fired : List ℕ) (v : ℕ) where
@@ -15,10 +15,10 @@ module _ (m : ℕ) (source sink produced consumed delay fired : List ℕ) (v : �
     pub enough : (k : ℕ) → k < e → at sink k ≡ v → (at fired v + 1) * at consumed k ≤ at delay k + at fired (at source k) * at produced k
     pub goes : e < m → at sink e ≡ v
 
-  pub fed-none : {r : ℕ} → FirstInto m sink v 0 r → FedBelow r
+  pub fed-none : {r : ℕ} → FirstAt m sink v 0 r → FedBelow r
   fed-none f = record { within = f .within; enough = λ k l z. absurd (f .passed k (omega arith) l z); goes = f .goes }
 
-  pub fed-more : {e r : ℕ} → FedBelow e → e < m → (at fired v + 1) * at consumed e ≤ at delay e + at fired (at source e) * at produced e → FirstInto m sink (at sink e) (suc e) r → FedBelow r
+  pub fed-more : {e r : ℕ} → FedBelow e → e < m → (at fired v + 1) * at consumed e ≤ at delay e + at fired (at source e) * at produced e → FirstAt m sink (at sink e) (suc e) r → FedBelow r
   fed-more {e} {r} b h fed f =
       let z = b .goes h in
       record {

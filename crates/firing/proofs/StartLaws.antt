@@ -11,7 +11,7 @@ use Rattle.dataflow.specs.Counts.{sum}
 use Rattle.dataflow.specs.Times.{entry, MakesLast, HeldByLast}
 use Rattle.dataflow.proofs.SumLaws.{sum-before}
 use Rattle.dataflow.proofs.LastLaws.{last-once}
-use Rattle.firing.specs.Into.{FirstInto}
+use Rattle.firing.specs.Thread.{FirstAt}
 use Rattle.chain.specs.Chain.{CountedChain, netOf, delaysOf}
 use Rattle.firing.specs.Times.{HoldsUp, HeldSmall, Waits, StartsAt}
 
@@ -32,7 +32,7 @@ module _ (n m : ℕ) (source sink produced consumed delay time q fired table : L
     pub is : (latest ≡ 0) ⊎ HeldByLast (netOf n m source sink produced consumed time q) (delaysOf m delay) (entry (at q) table) v (at fired v + 1) latest
     pub most : (x : ℕ) → ((k : ℕ) → at table k ≤ x) → latest ≤ x + 65535
 
-  pub start-none : {r : ℕ} → FirstInto m sink v 0 r → StartBelow r 0
+  pub start-none : {r : ℕ} → FirstAt m sink v 0 r → StartBelow r 0
   start-none f = record { within = f .within; goes = f .goes; after = λ k l z. absurd (f .passed k (omega arith) l z); is = inl refl; most = λ x h. omega arith }
 
   pub start-all : {e latest : ℕ} → StartBelow e latest → m ≤ e → StartsAt n m source sink produced consumed delay time q fired table v latest
@@ -58,7 +58,7 @@ module _ (n m : ℕ) (source sink produced consumed delay time q fired table : L
         record { queue = (e, h); copy = _; to = to; last = k; is = omega (arith, by-maker l _ k) }
 
     -- one queue more
-    pub start-more : {latest r : ℕ} → at time (at source e) ≤ 65535 → StartBelow e latest → FirstInto m sink (at sink e) (suc e) r → StartBelow r (max latest done)
+    pub start-more : {latest r : ℕ} → at time (at source e) ≤ 65535 → StartBelow e latest → FirstAt m sink (at sink e) (suc e) r → StartBelow r (max latest done)
     start-more {latest} {r} small b f = record {
       within = f .within;
       goes = λ l. f .goes l ∙ to;

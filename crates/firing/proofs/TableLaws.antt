@@ -1,28 +1,28 @@
 -- The laws of a time table in the making.
 use Prim.Native.Nat.{ℕ, suc, _+_, _-_, _*_, _≤_, _<_, _^_}
 use mathlib.Core.Path.{_≡_, refl, sym, ap, _∙_}
-use mathlib.Core.List.{List, [], _∷_, _++_}
+use mathlib.Core.List.{List, _∷_}
 use mathlib.Core.Logic.{⊎-elim}
 use native.Mathlib.Nat.{mul-le-mul-right, lt-of-mul-lt-mul-right}
 use native.Mathlib.Omega.{arith}
-use native.Mathlib.Numerals.{add-one}
 use native.Mathlib.Decide.{ℕ-discrete}
-use lib.ListN.{length, set, take, drop, length-set, length-take, replicate}
-use lib.Seq.{split-at, take-take, getD-take, take-suc, getD-set-same, getD-set-other}
+use lib.ListN.{length, set, take, drop, length-set, replicate}
+use lib.Seq.{getD-set-same, getD-set-other}
 use Rattle.lists.specs.Front.{at}
 use Rattle.lists.proofs.StoreLaws.{at-zeros}
 use Rattle.lists.proofs.Order.{order, lt-or-ge}
 use Rattle.dataflow.specs.Net.{Net}
 use Rattle.dataflow.specs.Counts.{sum}
 use Rattle.dataflow.specs.Copies.{Copy}
-use Rattle.dataflow.specs.Runs.{State, whenever, initially, fire, after, Run, fires}
+use Rattle.dataflow.specs.Runs.{whenever, initially, fire, after, Run}
 use Rattle.dataflow.specs.Sheet.{Below}
 use Rattle.dataflow.specs.Times.{entry, MakesLast, LastStart}
 use Rattle.dataflow.specs.Lists.{firedBy}
 use Rattle.dataflow.proofs.SumLaws.{sum-before}
 use Rattle.dataflow.proofs.RunLaws.{holds, holds-length}
-use Rattle.dataflow.proofs.TakenLaws.{after-append, after-rises, run-front, run-rest, run-ready, ready-counts}
-use Rattle.dataflow.proofs.PrefixLaws.{fired-more}
+use Rattle.dataflow.proofs.TakenLaws.{after-append, after-rises, run-ready, ready-counts}
+use Rattle.dataflow.proofs.PrefixLaws.{fired-stored}
+use Rattle.dataflow.proofs.EntryLaws.{run-before, cut, run-here, entry-station, with-entry}
 use Rattle.dataflow.proofs.RankLaws.{round-ranked}
 use Rattle.dataflow.proofs.LastLaws.{last-same, last-table}
 use Rattle.chain.specs.Chain.{CountedChain, netOf, delaysOf}
@@ -35,9 +35,6 @@ made-before : (d p c f i g : ℕ) → MakesLast d p c f i → i * c ≤ d + g * 
 made-before d p c f i g l h =
     let t = lt-of-mul-lt-mul-right p {m = f} {n = suc g} (omega (arith, l .early)) in
     omega arith
-
-run-station : (G : Net) {S : State G} {v : ℕ} {l : List ℕ} → Run G S (v ∷ l) → v < G .stations
-run-station G (fires h r t) = h
 
 module _ (n m : ℕ) (source sink produced consumed delay time q : List ℕ) (total : ℕ) (list : List ℕ) where
   abbrev G : Net
@@ -66,21 +63,11 @@ module _ (n m : ℕ) (source sink produced consumed delay time q : List ℕ) (to
   }
 
   module _ (o : Ordered n m source sink produced consumed delay time q total list) (long : total ≤ length list) (k : ℕ) (h : k < total) where
-    -- the list, cut before its entry k
-    split : take total list ≡ take k list ++ at list k ∷ drop (suc k) (take total list)
-    split =
-        let l = take total list in
-        let e = split-at l k 0 (omega (arith, length-take total list)) in
-        e ∙ rw (take-take k total list (omega arith), getD-take total list k 0 h)
-
-    run-here : Run G (after G (initially G D) (take k list)) (at list k ∷ drop (suc k) (take total list))
-    run-here = run-rest G (initially G D) (take k list) (at list k ∷ drop (suc k) (take total list)) (rw split at (o .run))
-
-    run-before : Run G (initially G D) (take k list)
-    run-before = run-front G (initially G D) (take k list) (at list k ∷ drop (suc k) (take total list)) (rw split at (o .run))
+    earlier : Run G (initially G D) (take k list)
+    earlier = run-before G (initially G D) total list long (o .run) k (omega arith)
 
     pub here : at list k < n
-    here = run-station G run-here
+    here = entry-station G (initially G D) total list long (o .run) k h
 
     abbrev F : ℕ → ℕ
     F = firedBy G D (take k list)
@@ -92,7 +79,7 @@ module _ (n m : ℕ) (source sink produced consumed delay time q : List ℕ) (to
     rest-fires : (u : ℕ) → u < n → fire G v (after G (initially G D) (take k list)) .fired u ≤ at q u
     rest-fires u b =
         let e = after-append G (initially G D) (take k list) (v ∷ drop (suc k) (take total list)) in
-        let w = rw (split, e) at (o .whole u b) in
+        let w = rw (cut G (initially G D) total list long (o .run) k h, e) at (o .whole u b) in
         omega (arith, after-rises G (fire G v (after G (initially G D) (take k list))) (drop (suc k) (take total list)) u, w)
 
     few : (u : ℕ) → u < n → F u ≤ at q u
@@ -110,11 +97,11 @@ module _ (n m : ℕ) (source sink produced consumed delay time q : List ℕ) (to
     made-done e f i b l =
         let p = at produced (e .0) in
         let c = at consumed (e .0) in
-        let a = holds-length (D e) p c (F (at source (e .0))) (F (at sink (e .0))) _ (holds G D run-before e) in
+        let a = holds-length (D e) p c (F (at source (e .0))) (F (at sink (e .0))) _ (holds G D earlier e) in
         made-before (D e) p c f i (F (at source (e .0))) l (omega (arith, a, mul-le-mul-right c b))
 
     fed-here : (e : Below m) → at sink (e .0) ≡ v → suc (F v) * at consumed (e .0) ≤ D e + F (at source (e .0)) * at produced (e .0)
-    fed-here = ready-counts G D (after G (initially G D) (take k list)) (holds G D run-before) v (run-ready G run-here)
+    fed-here = ready-counts G D (after G (initially G D) (take k list)) (holds G D earlier) v (run-ready G (run-here G (initially G D) total list long (o .run) k h))
 
     module _ (c : CountedChain n m source sink produced consumed q total) {table fired : List ℕ} (z : TableSoFar table fired k) where
       -- what the start of the next copy asks for
@@ -185,15 +172,8 @@ module _ (n m : ℕ) (source sink produced consumed delay time q : List ℕ) (to
           rest = λ j l. getD-set-other table place j r 0 (λ e. omega (arith, sum-before (at q) v n here, c .adds, z .is v, left)) ∙ z .rest j l;
         }
           where
-            front : take (k + 1) list ≡ take k list ++ (v ∷ [])
-            front = rw add-one (take-suc list k 0 (omega arith))
-
             is : (w : ℕ) → at (set fired v (at fired v + 1)) w ≡ firedBy G D (take (k + 1) list) w
-            is w = rw (front, fired-more G D (take k list) v w) (go (ℕ-discrete w v))
-              where
-                go : (x : Dec (w ≡ v)) → at (set fired v (at fired v + 1)) w ≡ F w + whenever x 1
-                go (yes x) = rw (x, getD-set-same fired v (at fired v + 1) 0 (omega (arith, here, z .wide))) (omega (arith, z .is v))
-                go (no x) = rw (getD-set-other fired v w (at fired v + 1) 0 x) (omega (arith, z .is w))
+            is w = rw (with-entry G (initially G D) total list long (o .run) k h) (fired-stored G D (take k list) fired v 1 (omega (arith, here, z .wide)) (z .is) w)
 
             done : (w i : ℕ) → 1 ≤ i → i ≤ at (set fired v (at fired v + 1)) w → Dec (w ≡ v) → LastStart G D (entry (at q) (set table place r)) w i (entry (at q) (set table place r) w i)
             done w i a b (no x) = old-done w i a (rw (getD-set-other fired v w (at fired v + 1) 0 x) at b)

@@ -20,7 +20,7 @@ use Rattle.dataflow.proofs.PrefixLaws.{prefix-front, prefix-longest}
 use Rattle.dataflow.proofs.SumLaws.{sum-none, sum-place}
 use Rattle.dataflow.proofs.TimeLaws.{times-once}
 use Rattle.chain.specs.Chain.{CountedChain, netOf, delaysOf}
-use Rattle.firing.specs.Into.{FirstInto, Threads}
+use Rattle.firing.specs.Thread.{FirstAt, Threads}
 use Rattle.firing.specs.Scan.{LowestThatCan}
 use Rattle.firing.specs.Fire.{Wanted, Fires}
 use Rattle.firing.specs.Times.{Bases, Ordered, Tabled}
@@ -29,23 +29,23 @@ use Rattle.chain.proofs.ChainLaws.{sound}
 use Rattle.firing.proofs.PeriodLaws.{ranked}
 
 -- of the threads
-into-once : (m : ℕ) (sink : List ℕ) (v from r r′ : ℕ) → FirstInto m sink v from r → FirstInto m sink v from r′ → r ≡ r′
-into-once m sink v from r r′ p q =
+first-at-once : (m : ℕ) (ends : List ℕ) (v from r r′ : ℕ) → FirstAt m ends v from r → FirstAt m ends v from r′ → r ≡ r′
+first-at-once m ends v from r r′ p q =
     order r r′
     (λ lt. absurd (q .passed r (p .ahead) lt (p .goes (omega (arith, q .within)))))
     (λ eq. eq)
     (λ gt. absurd (p .passed r′ (q .ahead) gt (q .goes (omega (arith, p .within)))))
 
-module _ (n m : ℕ) (sink head next head′ next′ : List ℕ) (p : Threads n m sink head next) (q : Threads n m sink head′ next′) where
+module _ (n m : ℕ) (ends head next head′ next′ : List ℕ) (p : Threads n m ends head next) (q : Threads n m ends head′ next′) where
   pub heads-unique : length head ≡ 32 → length head′ ≡ 32 → head ≡ head′
   heads-unique l l′ =
       ext-getD 0 head head′ (l ∙ sym l′)
-      (λ v h. ⊎-elim (λ b. into-once m sink v 0 _ _ (p .first v b) (q .first v b)) (λ b. p .no-station v b (omega arith) ∙ sym (q .no-station v b (omega arith))) (lt-or-ge v n))
+      (λ v h. ⊎-elim (λ b. first-at-once m ends v 0 _ _ (p .first v b) (q .first v b)) (λ b. p .no-station v b (omega arith) ∙ sym (q .no-station v b (omega arith))) (lt-or-ge v n))
 
   pub nexts-unique : length next ≡ 64 → length next′ ≡ 64 → next ≡ next′
   nexts-unique l l′ =
       ext-getD 0 next next′ (l ∙ sym l′)
-      (λ e h. ⊎-elim (λ b. into-once m sink (at sink e) (suc e) _ _ (p .more e b) (q .more e b)) (λ b. p .no-queue e b (omega arith) ∙ sym (q .no-queue e b (omega arith))) (lt-or-ge e m))
+      (λ e h. ⊎-elim (λ b. first-at-once m ends (at ends e) (suc e) _ _ (p .more e b) (q .more e b)) (λ b. p .no-queue e b (omega arith) ∙ sym (q .no-queue e b (omega arith))) (lt-or-ge e m))
 
 -- of the ready scan
 pub ready-unique : (P : ℕ → Type 0) (n r r′ : ℕ) → LowestThatCan P n r → LowestThatCan P n r′ → r ≡ r′

@@ -1,4 +1,4 @@
-pub mod Into
+pub mod Thread
 pub mod Scan
 pub mod Fire
 pub mod Times

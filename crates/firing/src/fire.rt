@@ -3,7 +3,7 @@ ghost use Prim.Native.Nat.{ℕ, _≤_, _<_, _^_};
 ghost use lib.ListN.{length};
 ghost use Rattle.lists.specs.Front.{at};
 ghost use Rattle.chain.specs.Chain.{Chain};
-ghost use Rattle.firing.specs.Into.{Threads};
+ghost use Rattle.firing.specs.Thread.{Threads};
 ghost use Rattle.firing.specs.Fire.{Wanted, Fires};
 use crate::scan::ready;
 

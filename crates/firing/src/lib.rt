@@ -12,7 +12,7 @@ pub use thread::threads;
 pub use times::bases;
 pub use times::time_table;
 
-// The lowest queue into each station, and behind each queue the next one into the same station; m where there is none.
+// The lowest queue at each station, and behind each queue the next one at the same station; m where there is none.
 pub struct Threaded {
     pub head: [u16; 32],
     pub next: [u16; 64],

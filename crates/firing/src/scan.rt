@@ -2,7 +2,7 @@
 ghost use Prim.Native.Nat.{_+_, _*_, _≤_, _<_, _^_};
 ghost use Rattle.lists.specs.Test.{Tells};
 ghost use Rattle.chain.specs.Chain.{Chain};
-ghost use Rattle.firing.specs.Into.{Threads};
+ghost use Rattle.firing.specs.Thread.{Threads};
 ghost use Rattle.firing.specs.Scan.{Can, LowestThatCan, Small};
 use chain::wide;
 use chain::wide32;

@@ -3,7 +3,7 @@ ghost use mathlib.Core.Path.{_≡_};
 ghost use Prim.Native.Nat.{ℕ, _+_, _*_, _≤_, _<_, _^_};
 ghost use Rattle.lists.specs.Front.{at};
 ghost use Rattle.dataflow.specs.Counts.{sum};
-ghost use Rattle.firing.specs.Into.{Threads};
+ghost use Rattle.firing.specs.Thread.{Threads};
 ghost use Rattle.chain.specs.Chain.{CountedChain};
 ghost use Rattle.firing.specs.Times.{Bases, HoldsUp, HeldSmall, Waits, StartsAt, Ordered, Tabled};
 use chain::larger;

@@ -11,7 +11,7 @@ use Rattle.checks.specs.Check.{Checks}
 use Rattle.checks.proofs.CheckLaws.{check-refuses, check-follows}
 use Rattle.search.specs.declared.Found.{Found}
 use Rattle.planner.specs.declared.Planning.{Planning}
-use Rattle.planner.specs.Making.{Begun, HasRoom, Wrote, Shown}
+use Rattle.planner.specs.Making.{Begun, HasRoom, Wrote, Roomed, numbersOf}
 use Rattle.planner.specs.Plan.{roomRow, refusedBy, Planned, Left, planKind, AnswersPlan, retimedRows, Plans}
 use Rattle.planner.proofs.HoldLaws.{planned}
 use Rattle.planner.proofs.RowLaws.{room-passed}
@@ -26,12 +26,12 @@ pub answer-refused : {f : Sheet} {start round times : List ℕ} {rows : List Row
 answer-refused {start = start} {round} {times} number place real v e = refuses (planKind start round times) number place real v (unwritten start round times e)
 
 -- the plan
-pub answer-planned : {c : Checked} {r : Found} {back : ℕ} {firings : List ℕ} {starts : ℕ} {start round times start′ round′ times′ : List ℕ} {p : Planning} → Begun c r back firings starts
-    → Wrote c r firings start round times start′ round′ times′ → HasRoom c starts start round times → Shown c r back firings starts p
+pub answer-planned : {c : Checked} {r : Found} {back : ℕ} {firings : List ℕ} {starts : ℕ} {start round times start′ round′ times′ room : List ℕ} {p : Planning} → Begun c r back firings starts
+    → Wrote c r firings start round times start′ round′ times′ → HasRoom c starts start round times → Roomed c starts start′ round′ room → p ≡ numbersOf c r back firings starts room
     → AnswersPlan (roomRow (c .sheet) (length start) (length round) (length times) ∷ []) (c .sheet) start round times p start′ round′ times′
-answer-planned {start = start} {round} {times} b w h s =
+answer-planned {start = start} {round} {times} b w h s is =
     passes (planKind start round times) (room-passed b (length start) (length round) (length times) (h .start-room) (h .round-room) (h .times-room))
-    (accepts (planKind start round times) (ap (λ (x : Planning). x .number) (s .is)) (ap (λ (x : Planning). x .place) (s .is)) (planned b w h s))
+    (accepts (planKind start round times) (ap (λ (x : Planning). x .number) is) (ap (λ (x : Planning). x .place) is) (planned b w h s is))
 
 -- planning begins with the checks
 module _ {s : List ℕ} {c : Checked} (k : Checks s c) (start round times : List ℕ) where

@@ -7,7 +7,7 @@ use Rattle.lists.specs.Front.{at}
 use Rattle.dataflow.specs.Runs.{initially}
 use Rattle.dataflow.specs.Lists.{FiringList}
 use Rattle.chain.specs.Chain.{Chain, netOf, delaysOf}
-use Rattle.firing.specs.Into.{Threads}
+use Rattle.firing.specs.Thread.{Threads}
 use Rattle.firing.specs.Fire.{Wanted}
 
 -- what firing a list asks for

@@ -10,7 +10,7 @@ use Rattle.checks.specs.Check.{Ready}
 use Rattle.search.specs.declared.Found.{Found}
 use Rattle.search.specs.Found.{Retimes}
 use Rattle.retimed.specs.Back.{BackOf, StartFirings}
-use Rattle.retimed.specs.Rooms.{Rooms}
+use Rattle.rooms.specs.Rooms.{BothListed, RoomsOf}
 use Rattle.planner.specs.declared.Planning.{Planning}
 use Rattle.planner.specs.Lists.{Written}
 
@@ -38,6 +38,14 @@ pub record Wrote (c : Checked) (r : Found) (firings start round times start′ r
   pub round-list : Written (c .sheet .n) (c .sheet .m) (c .sheet .source) (c .sheet .sink) (c .sheet .produced) (c .sheet .consumed) (r .delay) (c .q) round round′
   pub time-table : times′ ≡ front (c .total) (at (r .table)) times
 
+-- both lists, as they stand in the buffers
+abbrev pub Stand : (c : Checked) (r : Found) (starts : ℕ) (start round : List ℕ) → Type 0
+Stand c r starts = BothListed (c .sheet .n) (c .sheet .m) (c .sheet .source) (c .sheet .sink) (c .sheet .produced) (c .sheet .consumed) (c .delay) (r .delay) starts (c .total)
+
+-- the rooms that the queues need for them
+abbrev pub Roomed : (c : Checked) (starts : ℕ) (start round room : List ℕ) → Type 0
+Roomed c starts = RoomsOf (c .sheet .n) (c .sheet .m) (c .sheet .source) (c .sheet .sink) (c .sheet .produced) (c .sheet .consumed) (c .delay) starts (c .total)
+
 -- the plan's numbers
 abbrev pub numbersOf : (c : Checked) (r : Found) (back : ℕ) (firings : List ℕ) (starts : ℕ) (room : List ℕ) → Planning
 numbersOf c r back firings starts room = record {
@@ -57,8 +65,3 @@ numbersOf c r back firings starts room = record {
   delay = r .delay;
   room = room;
 }
-
-pub record Shown (c : Checked) (r : Found) (back : ℕ) (firings : List ℕ) (starts : ℕ) (p : Planning) : Type 0 where
-  pub room : List ℕ
-  pub is : p ≡ numbersOf c r back firings starts room
-  pub rooms : Rooms (c .sheet .m) (c .delay) (r .delay) room

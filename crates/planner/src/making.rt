@@ -1,14 +1,14 @@
 // Planning, check by check.
 ghost use mathlib.Core.Path.{_≡_};
-ghost use Prim.Native.Nat.{_≤_};
 ghost use mathlib.Core.List.{[], _∷_};
 ghost use lib.ListN.{length};
 ghost use Rattle.checks.specs.Check.{Ready};
-ghost use Rattle.planner.specs.Making.{Retimed, Begun, HasRoom, Wrote, Shown};
+ghost use Rattle.planner.specs.Making.{Retimed, Begun, HasRoom, Wrote, numbersOf};
 ghost use Rattle.planner.specs.Plan.{roomRow, retimedRows, refusedBy, AnswersPlan, Plans};
 use crate::Planning;
 use crate::listing::write_list;
 use crate::listing::write_times;
+use crate::room::rooms_of;
 use checks::Checked;
 use search::Found;
 
@@ -93,16 +93,20 @@ fn write(
 }
 
 // The plan's numbers.
-fn shown(checked: Checked, found: Found, back: u32, firings: [u32; 32], starts: usize) -> Planning
-    requires { ⌜ checked .sheet .m ≤ 64 ⌝ }
-    ensures { λ r. ⌜ Shown checked found back firings starts r ⌝ }
+fn shown(
+    checked: Checked,
+    found: Found,
+    back: u32,
+    firings: [u32; 32],
+    starts: usize,
+    room: [u32; 64],
+) -> Planning
+    ensures { λ r. ⌜ r ≡ numbersOf checked found back firings starts room ⌝ }
 {
     let tag = checked.sheet.tag;
     let q = checked.q;
     let retiming = found.retiming;
-    let old = checked.delay;
     let delay = found.delay;
-    let room = retimed::rooms(checked.sheet.m, &old, &delay);
     Planning {
         number: 0,
         place: 0,
@@ -146,7 +150,8 @@ fn lent(
         return refused(11, 0);
     }
     write(checked, found, back, firings, starts, start, round, times);
-    shown(checked, found, back, firings, starts)
+    let room = rooms_of(checked, found, starts, start, round);
+    shown(checked, found, back, firings, starts, room)
 }
 
 // The firings of the start list; then 11, or the plan.

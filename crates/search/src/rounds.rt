@@ -1,7 +1,7 @@
 // The search.
 ghost use mathlib.Core.Path.{_≡_};
 ghost use Rattle.chain.specs.Chain.{DelaysGiven, CountedChain};
-ghost use Rattle.firing.specs.Into.{Threads};
+ghost use Rattle.firing.specs.Thread.{Threads};
 ghost use Rattle.firing.specs.Times.{Ordered};
 ghost use Rattle.search.specs.Found.{nothingFound, Searches};
 use crate::Found;

@@ -9,13 +9,13 @@ use Rattle.firing.proofs.thread.threads.Statement.{statement}
 use Rattle.firing.proofs.thread.threads.Tie as tie
 
 abbrev Inv-loop : tie.InvT-loop
-Inv-loop n m sink none head₀ next₀ left₀ head next left =
-    (left ≤ m) × ((length head ≡ 32) × ((length next ≡ 64) × Threading 32 m sink head next left))
+Inv-loop n m ends none head₀ next₀ left₀ head next left =
+    (left ≤ m) × ((length head ≡ 32) × ((length next ≡ 64) × Threading 32 m ends head next left))
 
 abbrev μ-loop : tie.MeasureT-loop
-μ-loop n m sink none head₀ next₀ left₀ head next left = left
+μ-loop n m ends none head₀ next₀ left₀ head next left = left
 
-enters : (c : tie.After-wide Inv-loop μ-loop) → at (c .before .before .before .before .args .sink .now) (c .before .before .before .loop .left - 1) < c .before .before .before .before .args .n
+enters : (c : tie.After-wide Inv-loop μ-loop) → at (c .before .before .before .before .args .ends .now) (c .before .before .before .loop .left - 1) < c .before .before .before .before .args .n
 enters c = c .before .before .before .before .pre .1 .1 _ (omega arith)
 
 cast-none : tie.Need-cast-none Inv-loop μ-loop
@@ -28,7 +28,7 @@ loop-holds c = (
     refl,
     (
       refl,
-      none-threaded 32 (c .args .m) (c .args .sink .now) _ _ (λ v b. getD-replicate 32 v (c .args .m) 0 b) (λ e h b. getD-replicate 64 e (c .args .m) 0 b),
+      none-threaded 32 (c .args .m) (c .args .ends .now) _ _ (λ v b. getD-replicate 32 v (c .args .m) 0 b) (λ e h b. getD-replicate 64 e (c .args .m) 0 b),
     ),
   ),
 )
@@ -74,7 +74,7 @@ loop-again c =
     let a = c .before .before .before .before in
     let l = c .before .before .before .loop in
     let left : l .left ≡ suc (l .left - 1) = omega arith in
-    let t = one-more-threaded 32 (a .args .m) (a .args .sink .now) (l .head) (l .next) (l .left - 1) (omega arith) (omega (arith, enters c, a .pre .0)) (rw left at (l .inv .1 .1 .1)) (omega arith) (omega (arith, a .pre .1 .0)) in
+    let t = one-more-threaded 32 (a .args .m) (a .args .ends .now) (l .head) (l .next) (l .left - 1) (omega arith) (omega (arith, enters c, a .pre .0)) (rw left at (l .inv .1 .1 .1)) (omega arith) (omega (arith, a .pre .1 .0)) in
     (search needs, (simp length-set (search needs), (simp length-set (search needs), rw (c .wide .ensures .0) t)))
 
 returns : tie.Need-returns Inv-loop μ-loop

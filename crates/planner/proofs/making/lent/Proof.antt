@@ -1,6 +1,8 @@
 use mathlib.Core.Logic.{inl, inr}
 use native.Mathlib.Omega.{arith}
 use borrow.Author.Needs.{needs}
+use Rattle.planner.specs.Making.{HasRoom}
+use Rattle.planner.proofs.StandLaws.{stand}
 use Rattle.planner.proofs.AnswerLaws.{answer-refused, answer-planned}
 use Rattle.planner.proofs.RowLaws.{short-refused}
 use Rattle.planner.proofs.making.lent.Statement.{statement}
@@ -27,8 +29,23 @@ returns-3 c = answer-refused 11 0 (λ e. omega arith) (short-refused (c .before 
 write-requires : tie.Need-write-requires
 write-requires c κs = search needs
 
+abbrev begin : tie.After-write → tie.Start
+begin w = w .before .before .before .before .before .before .before .before .before .before .before .before
+
+-- the buffers are long enough where the lists are written
+has-room : (w : tie.After-write) → let a = begin w .args in HasRoom (a .checked) (a .starts) (a .start .now) (a .round .now) (a .times .now)
+has-room w =
+    let third = w .before .before .before .before in
+    let second = third .before .before in
+    record { start-room = second .before .before .if1 .left; round-room = second .if2 .left; times-room = third .if3 .left }
+
+rooms-of-requires : tie.Need-rooms-of-requires
+rooms-of-requires c κs =
+    let w = c .before .before .before .before .before .before .before .before in
+    stand (begin w .pre) (w .write .ensures) (has-room w)
+
 shown-requires : tie.Need-shown-requires
-shown-requires c κs = c .before .before .before .before .before .before .before .before .before .before .before .before .before .before .before .before .before .before .pre .retimed .ready .chain .few-queues
+shown-requires c κs = search needs
 
 same-length : tie.Need-same-length
 same-length c = search needs
@@ -41,11 +58,9 @@ same-length-3 c = search needs
 
 returns-4 : tie.Need-returns-4
 returns-4 c =
-    let w = c .before .before .before .before .before .before .before in
-    let third = w .before .before .before .before in
-    let second = third .before .before in
-    let first = second .before .before in
-    answer-planned (first .before .before .before .before .pre) (w .write .ensures) (record { start-room = first .if1 .left; round-room = second .if2 .left; times-room = third .if3 .left }) (c .shown .ensures)
+    let m = c .before in
+    let w = m .before .before .before .before .before .before .before .before .before in
+    answer-planned (begin w .pre) (w .write .ensures) (has-room w) (m .rooms-of .ensures) (c .shown .ensures)
 
 pub lent-spec : {M : Type 1} → statement M
 lent-spec =
@@ -58,6 +73,7 @@ lent-spec =
     refused-requires-3
     returns-3
     write-requires
+    rooms-of-requires
     shown-requires
     same-length
     same-length-2
