@@ -32,6 +32,7 @@ REFUSAL(HAND, 12);
 REFUSAL(NEGATIVE, 13);
 REFUSAL(SLOW, 14);
 REFUSAL(TOKEN, 15);
+REFUSAL(UNBALANCED, 16);
 
 /* Planning, crates/planner */
 SIZE(planning, 1024);

@@ -6,8 +6,9 @@
 #include "tasselbrook.h"
 
 /* by number; with buffers that no plan outgrows, planning gives no other refusal */
-static const char *const words[] = {"",      "short", "version",     "counts", "layout",
-                                    "field", "apart", "counts-fail", "stuck",  "no-retiming"};
+static const char *const words[] = {
+    "",      "short",       "version", "counts",      "layout",           "field",
+    "apart", "counts-fail", "stuck",   "no-retiming", [16] = "unbalanced"};
 
 static uint16_t start_list[TASSELBROOK_START_ENTRIES];
 static uint16_t round_list[TASSELBROOK_ROUND_ENTRIES];

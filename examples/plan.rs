@@ -57,7 +57,7 @@ extern "C" {
 }
 
 /// By number; with buffers that no plan outgrows, planning gives no other refusal.
-const WORDS: [&str; 10] = [
+const WORDS: [&str; 17] = [
     "",
     "short",
     "version",
@@ -68,6 +68,13 @@ const WORDS: [&str; 10] = [
     "counts-fail",
     "stuck",
     "no-retiming",
+    "",
+    "",
+    "",
+    "",
+    "",
+    "",
+    "unbalanced",
 ];
 
 /// Plans a sheet with three lent buffers of any length.

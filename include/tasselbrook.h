@@ -56,7 +56,9 @@ enum tasselbrook_refusal {
   TASSELBROOK_HAND = 12,       /* a hand list's length or an entry; a move's station, copy or r */
   TASSELBROOK_NEGATIVE = 13,   /* a new delay below 0; place: the lowest such queue */
   TASSELBROOK_SLOW = 14,       /* the hand period is above the target */
-  TASSELBROOK_TOKEN = 15       /* no such queue, firing or token */
+  TASSELBROOK_TOKEN = 15,      /* no such queue, firing or token */
+  TASSELBROOK_UNBALANCED = 16  /* after 6 and before 7: no counts of any size balance every queue;
+                                * place: the lowest queue that can't be balanced with those below */
 };
 
 /* A plan. Entries past n stations and m queues are 0.
@@ -159,7 +161,8 @@ struct tasselbrook_rest {
 
 /* Plans a sheet. Reads the sheet's bytes s; writes the start list and the round list, as station
  * numbers, and the start times, in ticks, to the first `starts`, `total` and `total` entries of the
- * three buffers, and no other entry. Refuses by 1 to 9 or 11, and then every buffer is as it was. */
+ * three buffers, and no other entry. Refuses by 1 to 9 with 16, or by 11, and then every buffer is
+ * as it was. */
 struct tasselbrook_planning tasselbrook_plan(const uint8_t *s, size_t s_length,
                                              uint16_t *start, size_t start_length,
                                              uint16_t *round, size_t round_length,
@@ -183,20 +186,20 @@ struct tasselbrook_written tasselbrook_write(uint16_t version, size_t n, size_t 
                                              uint8_t *out, size_t out_length);
 
 /* Tells the period that a hand retiming gives. Reads the sheet's bytes s and the hand list, with an
- * entry from -65,535 to 65,535 for each station, and writes to no buffer. Refuses by 1 to 8, then
- * by 12 where the list's length or an entry is out of range, by 13 and by 14. */
+ * entry from -65,535 to 65,535 for each station, and writes to no buffer. Refuses by 1 to 8 with
+ * 16, then by 12 where the list's length or an entry is out of range, by 13 and by 14. */
 struct tasselbrook_hand_period tasselbrook_hand_period(const uint8_t *s, size_t s_length,
                                                        const int32_t *hand, size_t hand_length);
 
 /* Tells where a retiming by r moves a station's copy (from 1). Reads the sheet's bytes s and writes
- * to no buffer. Refuses by 1 to 8, and by 12 where the station, the copy or r (-65,535 to 65,535)
- * is out of range. */
+ * to no buffer. Refuses by 1 to 8 with 16, and by 12 where the station, the copy or r (-65,535 to
+ * 65,535) is out of range. */
 struct tasselbrook_moved tasselbrook_one_move(const uint8_t *s, size_t s_length, size_t station,
                                               uint32_t copy, int32_t r);
 
 /* Tells the origin of a token (from 1) that a firing (1 to 1,000,000) of a queue's sink takes, by
- * the sheet's own delays. Reads the sheet's bytes s and writes to no buffer. Refuses by 1 to 8, and
- * by 15 where there is no such queue, firing or token. */
+ * the sheet's own delays. Reads the sheet's bytes s and writes to no buffer. Refuses by 1 to 8 with
+ * 16, and by 15 where there is no such queue, firing or token. */
 struct tasselbrook_origin tasselbrook_origin_of(const uint8_t *s, size_t s_length, size_t queue,
                                                 uint32_t firing, uint32_t token);
 

@@ -2,10 +2,10 @@
 
 use crate::draft::{Draft, CONSUMED, DELAY};
 use crate::random::Random;
-use crate::shapes::{chained, joined};
+use crate::shapes::{chain, chained, joined};
 use crate::{
-    ask_read, balanced, bench_rows, damage, edges, islands, loops, paths, rates, slow, tight,
-    undone, Stream,
+    ask_read, balanced, bench_rows, damage, edges, exact, heights, islands, loops, paths, rates,
+    slow, tight, unbalanced, undone, Stream,
 };
 
 pub fn systematic(stream: &mut Stream) {
@@ -19,6 +19,8 @@ pub fn systematic(stream: &mut Stream) {
         several_refusals(),
         islands::all(),
         rates::all(),
+        exact::all(),
+        unbalanced::all(),
         loops::all(),
         paths::all(),
         tight::all(),
@@ -54,31 +56,38 @@ fn field_edits() -> Vec<Draft> {
     drafts
 }
 
-/// Sheets with every two of refusals 4 to 8 at once, of which the first is given.
+/// Sheets with every two of refusals 4 to 8 and 16 at once, of which the first is given. Only 16
+/// and 7 can't meet, because 7 is for balanced sheets.
 fn several_refusals() -> Vec<Draft> {
+    let rising = chain(&[(64, 1), (64, 1)]);
     let apart = joined(3, vec![[0, 1, 1, 1, 0]]);
     let unbalanced = joined(2, vec![[0, 1, 1, 1, 0], [0, 1, 1, 2, 0]]);
+    let too_large = joined(3, rising.clone());
     let stuck = joined(2, vec![[0, 1, 1, 1, 0], [1, 0, 1, 1, 0]]);
     let apart_and_unbalanced = joined(3, vec![[0, 1, 1, 1, 0], [0, 1, 1, 2, 0]]);
+    let apart_and_too_large = joined(4, rising.clone());
     let apart_and_stuck = joined(3, vec![[0, 1, 1, 1, 0], [1, 0, 1, 1, 0]]);
     let unbalanced_and_stuck = joined(2, vec![[0, 1, 1, 1, 0], [1, 0, 1, 2, 0]]);
-    let all_three = joined(3, vec![[0, 1, 1, 1, 0], [1, 0, 1, 2, 0]]);
+    let too_large_and_stuck = joined(3, [rising, vec![[2, 2, 1, 1, 0]]].concat());
+    let apart_unbalanced_and_stuck = joined(3, vec![[0, 1, 1, 1, 0], [1, 0, 1, 2, 0]]);
     let mut drafts = Vec::new();
-    for draft in [apart, unbalanced, stuck] {
+    for draft in [apart, unbalanced, too_large, stuck] {
         drafts.push(edges::edited(draft.clone(), 0, CONSUMED, 65));
         drafts.push(Draft { station_offset: 24, ..draft.clone() });
         drafts.push(draft);
     }
-    drafts.extend([apart_and_unbalanced, apart_and_stuck, unbalanced_and_stuck, all_three]);
+    drafts.extend([apart_and_unbalanced, apart_and_too_large, apart_and_stuck]);
+    drafts.extend([unbalanced_and_stuck, too_large_and_stuck, apart_unbalanced_and_stuck]);
     drafts
 }
 
 pub fn random_body(random: &mut Random) -> Vec<u8> {
-    let draft = match random.below(24) {
+    let draft = match random.below(27) {
         0 | 1 => return ask_read::random_body(random),
         2 | 3 => random_chain(random),
         4..=13 => balanced::random(random).draft,
         14 => slow::random(random),
+        15..=17 => heights::random(random),
         _ => undone::random(random).draft,
     };
     damage::seldom(&[], draft, random)

@@ -85,3 +85,12 @@ pub fn edited(mut draft: Draft, place: usize, field: usize, value: u16) -> Draft
     draft.queues[place][field] = value;
     draft
 }
+
+/// The rate next to this one, which is one more if that is within limits.
+pub fn beside(rate: u16) -> u16 {
+    if rate == 64 {
+        63
+    } else {
+        rate + 1
+    }
+}

@@ -1,4 +1,4 @@
-//! Kind 5: the period that a hand retiming gives, by checks 1 to 8 and 12 to 14.
+//! Kind 5: the period that a hand retiming gives, by checks 1 to 8 with 16, and 12 to 14.
 
 use crate::copies;
 use crate::fields::Fields;

@@ -19,13 +19,13 @@ impl Known {
     pub fn of(mut draft: Draft, counts: &[usize], retiming: &[i64], random: &mut Random) -> Known {
         let common = counts.iter().copied().fold(0, common_divisor);
         let counts: Vec<usize> = counts.iter().map(|count| count / common).collect();
-        let order: Vec<usize> = shuffled((0..counts.len()).collect(), random);
+        let order: Vec<usize> = random.shuffled((0..counts.len()).collect());
         draft.stations = reordered(&draft.stations, &order);
         for end in draft.queues.iter_mut().flat_map(|queue| &mut queue[SOURCE..=SINK]) {
             let number = order.iter().position(|&before| before == usize::from(*end));
             *end = number.unwrap_or(0) as u16;
         }
-        draft.queues = shuffled(draft.queues, random);
+        draft.queues = random.shuffled(draft.queues);
         let counts = reordered(&counts, &order);
         Known { draft, counts, retiming: reordered(retiming, &order) }
     }
@@ -43,11 +43,4 @@ pub fn random(random: &mut Random) -> Known {
 /// The list with the entries of these places, one after the other.
 fn reordered<T: Copy>(list: &[T], order: &[usize]) -> Vec<T> {
     order.iter().map(|&place| list[place]).collect()
-}
-
-fn shuffled<T>(mut list: Vec<T>, random: &mut Random) -> Vec<T> {
-    for place in 1..list.len() {
-        list.swap(place, random.below(place + 1));
-    }
-    list
 }

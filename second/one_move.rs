@@ -1,4 +1,4 @@
-//! Kind 6: where a retiming moves one copy, by checks 1 to 8 and 12.
+//! Kind 6: where a retiming moves one copy, by checks 1 to 8 with 16, and 12.
 
 use crate::fields::Fields;
 use crate::ready;

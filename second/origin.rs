@@ -1,4 +1,4 @@
-//! Kind 7: where one token comes from, by checks 1 to 8 and 15.
+//! Kind 7: where one token comes from, by checks 1 to 8 with 16, and 15.
 
 use crate::fields::Fields;
 use crate::ready;

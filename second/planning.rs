@@ -1,4 +1,4 @@
-//! Works out what a plan holds, by checks 1 to 9 and 11.
+//! Works out what a plan holds, by checks 1 to 9 with 16, and 11.
 
 use crate::buffers::Buffers;
 use crate::copies;

@@ -19,7 +19,9 @@ mod bench_rows;
 mod damage;
 mod draft;
 mod edges;
+mod exact;
 mod hand_lists;
+mod heights;
 mod islands;
 mod known;
 mod legal;
@@ -32,6 +34,7 @@ mod refused;
 mod shapes;
 mod slow;
 mod tight;
+mod unbalanced;
 mod undone;
 
 use random::Random;

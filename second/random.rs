@@ -35,6 +35,14 @@ impl Random {
         }
     }
 
+    /// The list in any order.
+    pub fn shuffled<T>(&mut self, mut list: Vec<T>) -> Vec<T> {
+        for place in 1..list.len() {
+            list.swap(place, self.below(place + 1));
+        }
+        list
+    }
+
     pub fn pick<'a, T>(&mut self, from: &'a [T]) -> &'a T {
         &from[self.below(from.len())]
     }

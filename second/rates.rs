@@ -1,4 +1,5 @@
-//! Sheets for check 7: unbalanced ones, and balanced ones with small, large and immense counts.
+//! Sheets for checks 16 and 7: unbalanced ones, and balanced ones with small, large and immense
+//! counts.
 
 use crate::draft::Draft;
 use crate::shapes::{chain, chained, joined, star, turned};

@@ -8,6 +8,8 @@ pub enum Refusal {
     /// Holds the lowest queue with a bad field.
     Field(usize),
     Apart,
+    /// Holds the lowest queue that can't be balanced together with those before it.
+    Unbalanced(usize),
     CountsFail,
     Stuck,
     NoRetiming,
@@ -32,6 +34,7 @@ fn line(refusal: &Refusal) -> String {
         Refusal::Layout => (4, "layout", 0),
         Refusal::Field(queue) => (5, "field", *queue),
         Refusal::Apart => (6, "apart", 0),
+        Refusal::Unbalanced(queue) => (16, "unbalanced", *queue),
         Refusal::CountsFail => (7, "counts-fail", 0),
         Refusal::Stuck => (8, "stuck", 0),
         Refusal::NoRetiming => (9, "no-retiming", 0),

@@ -1,9 +1,9 @@
-//! Sheets of two stations for each of the refusals 1 to 8, which come before what else a question
-//! may be refused for.
+//! Sheets, mostly of two stations, for each of the refusals 1 to 8 and 16, which come before what
+//! else a question may be refused for.
 
 use crate::draft::{Draft, CONSUMED, DELAY, PRODUCED, SINK, SOURCE};
 use crate::edges::edited;
-use crate::shapes::joined;
+use crate::shapes::{chain, joined};
 use crate::{bench_rows, Stream};
 
 /// Asks about each of them with each of these heads.
@@ -48,13 +48,20 @@ fn fields() -> Vec<Draft> {
     drafts
 }
 
-/// For 6 to 8.
+/// For 6, 16, 7 and 8.
 fn shapes() -> Vec<Draft> {
+    let mut parallel = vec![[0, 1, 1, 1, 0]; 64];
+    parallel[63] = [1, 0, 63, 64, 0];
+    let immense = chain(&[(64, 63); 31]);
     vec![
         joined(2, vec![]),
         joined(2, vec![[0, 0, 1, 1, 1], [1, 1, 1, 1, 1]]),
+        joined(2, vec![[0, 0, 1, 2, 5], [0, 1, 1, 1, 0]]),
         joined(2, vec![[0, 1, 1, 1, 0], [0, 1, 1, 2, 0]]),
         joined(2, vec![[0, 1, 1, 1, 0], [1, 1, 1, 2, 5]]),
+        joined(2, parallel),
+        joined(32, [immense.clone(), vec![[31, 30, 62, 64, 0]]].concat()),
+        joined(32, immense),
         bench_rows::k(1, 9),
         joined(2, vec![[0, 1, 1, 1, 0], [1, 1, 1, 1, 0]]),
     ]

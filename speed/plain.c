@@ -15,6 +15,8 @@ enum {
     MOST_STARTS = 65536,
     MOST_RATE = 64,
     MOST_DELAY = 4095,
+    LIMBS = 4,
+    LIMB_BITS = 56,
     MOST_BODY = 70000
 };
 
@@ -38,6 +40,13 @@ struct sheet {
     struct station station[MOST_STATIONS];
     struct queue queue[MOST_QUEUES];
     unsigned delay[MOST_QUEUES];
+};
+
+/* A tree of queues over all stations. The station at place i was reached by a queue from place up[i],
+ * with rate near[i] at place i and far[i] at the other end. */
+struct tree {
+    unsigned place[MOST_STATIONS];
+    unsigned up[MOST_STATIONS], near[MOST_STATIONS], far[MOST_STATIONS];
 };
 
 /* Three buffers and how many entries of each are lent. */
@@ -116,25 +125,24 @@ static unsigned bad_queue(const struct sheet *sheet)
     return e;
 }
 
-/* A station that isn't marked at a queue whose other end is, or n. */
-static unsigned neighbour(const struct sheet *sheet, const bool *marked)
+/* The lowest queue with just one marked end, or m. */
+static unsigned crossing(const struct sheet *sheet, const bool *marked)
 {
-    for (unsigned e = 0; e < sheet->m; e++) {
-        unsigned u = sheet->queue[e].source, v = sheet->queue[e].sink;
-        if (marked[u] != marked[v])
-            return marked[u] ? v : u;
-    }
-    return sheet->n;
+    unsigned e;
+    for (e = 0; e < sheet->m; e++)
+        if (marked[sheet->queue[e].source] != marked[sheet->queue[e].sink])
+            break;
+    return e;
 }
 
 static bool joined(const struct sheet *sheet)
 {
     bool marked[MOST_STATIONS] = {true};
     for (unsigned count = 1; count < sheet->n; count++) {
-        unsigned v = neighbour(sheet, marked);
-        if (v == sheet->n)
+        unsigned e = crossing(sheet, marked);
+        if (e == sheet->m)
             return false;
-        marked[v] = true;
+        marked[sheet->queue[e].source] = marked[sheet->queue[e].sink] = true;
     }
     return true;
 }
@@ -169,6 +177,67 @@ static bool find_counts(struct sheet *sheet)
         if (!raise_count(sheet))
             return true;
     return false;
+}
+
+/* Gives each station of a joined sheet its place in a tree that grows from station 0 by the lowest
+ * queue that leads to one more. */
+static void grow_tree(const struct sheet *sheet, struct tree *tree)
+{
+    bool marked[MOST_STATIONS] = {true};
+    tree->place[0] = 0;
+    for (unsigned count = 1; count < sheet->n; count++) {
+        const struct queue *queue = &sheet->queue[crossing(sheet, marked)];
+        bool ahead = marked[queue->source];
+        unsigned v = ahead ? queue->sink : queue->source;
+        tree->up[count] = tree->place[ahead ? queue->source : queue->sink];
+        tree->near[count] = ahead ? queue->consumed : queue->produced;
+        tree->far[count] = ahead ? queue->produced : queue->consumed;
+        tree->place[v] = count;
+        marked[v] = true;
+    }
+}
+
+/* The product with a rate, in place. */
+static void times_rate(uint64_t *limbs, uint64_t rate)
+{
+    uint64_t carry = 0;
+    for (unsigned i = 0; i < LIMBS; i++) {
+        uint64_t all = limbs[i] * rate + carry;
+        limbs[i] = all & (((uint64_t)1 << LIMB_BITS) - 1);
+        carry = all >> LIMB_BITS;
+    }
+}
+
+/* Whether the products of the rates agree round the loop of a queue and the tree's way between its
+ * ends. */
+static bool agrees(const struct tree *tree, const struct queue *queue)
+{
+    uint64_t left[LIMBS] = {queue->produced}, right[LIMBS] = {queue->consumed};
+    unsigned i = tree->place[queue->source], j = tree->place[queue->sink];
+    while (i != j) {
+        if (i < j) {
+            times_rate(left, tree->near[j]);
+            times_rate(right, tree->far[j]);
+            j = tree->up[j];
+        } else {
+            times_rate(left, tree->far[i]);
+            times_rate(right, tree->near[i]);
+            i = tree->up[i];
+        }
+    }
+    return memcmp(left, right, sizeof left) == 0;
+}
+
+/* The lowest queue that can't be balanced with those before it, or m. */
+static unsigned spoiled(const struct sheet *sheet)
+{
+    struct tree tree;
+    unsigned e;
+    grow_tree(sheet, &tree);
+    for (e = 0; e < sheet->m; e++)
+        if (!agrees(&tree, &sheet->queue[e]))
+            break;
+    return e;
 }
 
 /* Threads the queues into each station and out of it, and finds where its copies begin in the time
@@ -411,7 +480,7 @@ static void find_rooms(const struct sheet *sheet, const struct lent *lent, struc
     lift_over(sheet, plan->delay, lent->round, sheet->total, plan->room);
 }
 
-/* Checks 1 to 8. Leaves the sheet and its round list. */
+/* Checks 1 to 8 with 16. Leaves the sheet and its round list. */
 static unsigned check(const unsigned char *s, size_t size, struct sheet *sheet, uint16_t *list,
                       unsigned *place)
 {
@@ -427,14 +496,19 @@ static unsigned check(const unsigned char *s, size_t size, struct sheet *sheet, 
     }
     if (!joined(sheet))
         return 6;
-    if (!find_counts(sheet))
-        return 7;
+    if (!find_counts(sheet)) {
+        unsigned e = spoiled(sheet);
+        if (e == sheet->m)
+            return 7;
+        *place = e;
+        return 16;
+    }
     thread_queues(sheet);
     return fire_round(sheet, sheet->delay, list) ? 0 : 8;
 }
 
-/* The first of refusals 1 to 9 and 11 that applies; or 0, and both lists and the time table in the
- * lent buffers. */
+/* The first of refusals 1 to 9 with 16, and 11, that applies; or 0, and both lists and the time table
+ * in the lent buffers. */
 static unsigned make_plan(const unsigned char *s, size_t size, const struct lent *lent,
                           struct sheet *sheet, struct plan *plan)
 {
@@ -503,10 +577,10 @@ static void print_number(const char *word, unsigned number)
 
 static void print_refusal(unsigned number, unsigned place)
 {
-    /* by number; there is no refusal 10 */
+    /* by number; there is no refusal 10, and no plan is refused by 12 to 15 */
     static const char *const word[] = {
         "", "short", "version", "counts", "layout", "field", "apart", "counts-fail",
-        "stuck", "no-retiming", "", "room"
+        "stuck", "no-retiming", "", "room", "", "", "", "", "unbalanced"
     };
     print_number("refused ", number);
     print_text(" ");

@@ -8,12 +8,13 @@ use native.Mathlib.Omega.{arith}
 use lib.ListN.{length, take, drop, replicate, length-take}
 use lib.Seq.{take-at, getD-append-add, getD-drop}
 use Rattle.lists.specs.Front.{at}
+use Rattle.lists.specs.Lowest.{LowestFailing}
 use Rattle.lists.specs.Test.{Tells}
 use Rattle.lists.proofs.FilledLaws.{same-list}
 use Rattle.lists.proofs.StoreLaws.{at-zeros}
 use Rattle.refusals.specs.First.{Row, Passed, nth, First, free}
 use Rattle.refusals.specs.Table.{apart, counts-fail, stuck}
-use Rattle.refusals.proofs.FirstLaws.{here-now, passed, none, extend, all-passed}
+use Rattle.refusals.proofs.FirstLaws.{here, here-now, passed, none, extend, all-passed}
 use Rattle.refusals.specs.Answer.{Kind, Answers}
 use Rattle.refusals.proofs.AnswerLaws.{refuses, passes, follows}
 use Rattle.dataflow.specs.Net.{Sound}
@@ -21,6 +22,7 @@ use Rattle.dataflow.specs.Counts.{Counts}
 use Rattle.dataflow.specs.Lists.{RoundList}
 use Rattle.dataflow.specs.Refusals.{apartRow}
 use Rattle.dataflow.specs.Stuck.{Stuck}
+use Rattle.dataflow.proofs.BalanceLaws.{balanced-passes}
 use Rattle.dataflow.proofs.CountLaws.{counts-once}
 use Rattle.dataflow.proofs.ListLaws.{list-run, list-fired, round-length}
 use Rattle.dataflow.proofs.SheetLaws.{sheet-sound}
@@ -40,6 +42,8 @@ use Rattle.counts.specs.declared.Counted.{Counted}
 use Rattle.counts.specs.Joining.{AllJoined}
 use Rattle.counts.specs.Smallest.{Smallest}
 use Rattle.counts.proofs.RowLaws.{joined-passes, apart-applies, are-counts, counts-pass, counts-fail-applies}
+use Rattle.balance.specs.Spoiled.{Balanceable}
+use Rattle.balance.proofs.RowLaws.{spoiled-applies, spoiled-passes}
 use Rattle.checks.specs.declared.Checked.{Checked}
 use Rattle.checks.specs.Check.{columnsOf, netFor, delaysFor, CountsOf, stuckRow, chainRows, checkRows, Ready, checkedKind, Judges, Checks}
 use Rattle.checks.proofs.SheetLaws.{read-chain}
@@ -107,13 +111,24 @@ module _ (f : Sheet) {joins : Bool} (T : Tells joins (AllJoined (f .n) (f .m) (f
   apart-refused e = here-now apart (apart-applies (columnsOf f) [] T e)
 
   module _ (e : joins ≡ true) {counted : Counted} (S : Smallest (f .n) (f .m) (f .source) (f .sink) (f .produced) (f .consumed) counted) where
-    -- 7 is given
-    pub counts-refused : counted .fits ≡ false → First (chainRows f) 7 0
-    counts-refused k = passed {r = apartRow (netFor f [])} (λ place a. joined-passes (columnsOf f) [] T e a) (here-now counts-fail (counts-fail-applies (columnsOf f) [] S k))
+    not-apart : Passed (apartRow (netFor f []))
+    not-apart place a = joined-passes (columnsOf f) [] T e a
 
-    -- neither is
+    module _ {r : ℕ} (L : LowestFailing (Balanceable (f .n) (f .m) (f .source) (f .sink) (f .produced) (f .consumed)) (f .m) r) where
+      -- 16 is given
+      pub balance-refused : r < f .m → First (chainRows f) 16 r
+      balance-refused h = passed not-apart (here (spoiled-applies (columnsOf f) [] r L h))
+
+      -- 7 is given
+      pub counts-refused : counted .fits ≡ false → f .m ≤ r → First (chainRows f) 7 0
+      counts-refused k h = passed not-apart (passed (spoiled-passes (columnsOf f) [] r L h) (here-now counts-fail (counts-fail-applies (columnsOf f) [] S k)))
+
+    -- none of them is
     pub chain-judged : counted .fits ≡ true → {r : Checked} → Judges (stuckRow f ∷ []) f r → Judges (chainRows f) f r
-    chain-judged k j = passes checkedKind (λ place a. joined-passes (columnsOf f) [] T e a) (passes checkedKind (λ place a. counts-pass (columnsOf f) [] S k a) j)
+    chain-judged k j =
+        passes checkedKind not-apart
+        (passes checkedKind (balanced-passes (netFor f []) (at (counted .q)) (are-counts (columnsOf f) [] S k .balances))
+        (passes checkedKind (λ place a. counts-pass (columnsOf f) [] S k a) j))
 
 pub counts-are : (f : Sheet) {counted : Counted} → Smallest (f .n) (f .m) (f .source) (f .sink) (f .produced) (f .consumed) counted → counted .fits ≡ true → CountsOf f (counted .q)
 counts-are f {counted} S k = record { entries = S .entries; counts = are-counts (columnsOf f) (counted .q) S k; beyond = S .beyond }

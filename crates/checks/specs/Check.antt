@@ -1,4 +1,4 @@
--- Checks 1 to 8, and what they work out of a sheet.
+-- Checks 1 to 8 with 16, and what they work out of a sheet.
 use Prim.Native.Nat.{ℕ, _≤_}
 use mathlib.Core.Path.{_≡_, refl}
 use mathlib.Core.List.{List, [], _∷_, _++_}
@@ -10,7 +10,7 @@ use Rattle.refusals.specs.Answer.{Kind, Answers}
 use Rattle.dataflow.specs.Net.{Net}
 use Rattle.dataflow.specs.Counts.{Counts, sum}
 use Rattle.dataflow.specs.Lists.{RoundList}
-use Rattle.dataflow.specs.Refusals.{apartRow, countsRow}
+use Rattle.dataflow.specs.Refusals.{apartRow, unbalancedRow, countsRow}
 use Rattle.dataflow.specs.Sheet as columns
 use Rattle.dataflow.specs.Stuck.{Stuck}
 use Rattle.sheet.specs.declared.Sheet.{Sheet}
@@ -54,9 +54,9 @@ countedRow f refusal P = row refusal ((q : List ℕ) × CountsOf f q × P q)
 abbrev pub stuckRow : Sheet → Row
 stuckRow f = countedRow f stuck (λ q. Stuck (netFor f q) (delaysFor f q))
 
--- 6, 7 and 8; in the first two the counts play no part
+-- 6, 16, 7 and 8; in the first three the counts play no part
 abbrev pub chainRows : Sheet → List Row
-chainRows f = apartRow (netFor f []) ∷ countsRow (netFor f []) ∷ stuckRow f ∷ []
+chainRows f = apartRow (netFor f []) ∷ unbalancedRow (netFor f []) ∷ countsRow (netFor f []) ∷ stuckRow f ∷ []
 
 abbrev pub checkRows : List ℕ → List Row
 checkRows s = readRows s ++ chainRows (sheetOf s)
@@ -95,6 +95,6 @@ checkedKind = record { number = λ r. r .number; place = λ r. r .place; refusal
 abbrev pub Judges : (rows : List Row) (f : Sheet) → Checked → Type 0
 Judges rows f = Answers checkedKind rows (Ready f)
 
--- checks 1 to 8 of a sheet's bytes
+-- checks 1 to 8 with 16 of a sheet's bytes
 abbrev pub Checks : (s : List ℕ) → Checked → Type 0
 Checks s = Judges (checkRows s) (sheetOf s)

@@ -82,7 +82,7 @@ fn fired(sheet: Sheet, total: usize, q: [u32; 32]) -> Checked
     }
 }
 
-// 6 and 7, then 8.
+// 6, 16 and 7, then 8. Counts that fit balance every queue, so 16 is looked for only where none do.
 fn chained(sheet: Sheet) -> Checked
     requires { ⌜ Chain (sheet .n) (sheet .m) (sheet .source) (sheet .sink) (sheet .produced) (sheet .consumed) × DelaysGiven (sheet .m) (sheet .delay) ⌝ }
     ensures { λ r. ⌜ Judges (chainRows sheet) sheet r ⌝ }
@@ -96,13 +96,17 @@ fn chained(sheet: Sheet) -> Checked
     }
     let counted = counts::counts(sheet.n, sheet.m, &source, &sink, &produced, &consumed);
     if !counted.fits {
+        let e = balance::spoiled(sheet.n, sheet.m, &source, &sink, &produced, &consumed);
+        if e < sheet.m {
+            return refused(16, e as u32);
+        }
         return refused(7, 0);
     }
     let q = counted.q;
     fired(sheet, counted.total, wide_counts(&q))
 }
 
-// Bytes of any length: the first of refusals 1 to 8 that applies, or what is worked out of the sheet.
+// Bytes of any length: the first of refusals 1 to 8 with 16 that applies, or what is worked out of the sheet.
 pub fn check(s: &[u8]) -> Checked
     ensures { λ r. ⌜ Checks (now (s .entry)) r ⌝ }
 {

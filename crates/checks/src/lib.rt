@@ -1,4 +1,4 @@
-// Checks 1 to 8 of a sheet's bytes.
+// Checks 1 to 8 with 16 of a sheet's bytes.
 mod judge;
 
 pub use judge::check;

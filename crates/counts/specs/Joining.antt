@@ -4,9 +4,11 @@ use mathlib.Core.Path.{_≡_}
 use mathlib.Core.List.{List, []}
 use mathlib.Core.Logic.{_⊎_}
 use Rattle.lists.specs.Front.{at}
+use Rattle.lists.specs.Lowest.{LowestFailing}
 use Rattle.dataflow.specs.Net.{Net}
 use Rattle.dataflow.specs.Refusals.{Joined}
 use Rattle.chain.specs.Chain.{netOf}
+use Rattle.counts.specs.declared.Crossing.{Crossing}
 
 -- n and m are within limits, and each queue joins two stations
 pub record Ends (n m : ℕ) (source sink : List ℕ) : Type 0 where
@@ -28,14 +30,18 @@ AllJoined n m source sink = (u v : ℕ) → u < n → v < n → Joined (endsOf n
 pub record Marks (marked : List ℕ) : Type 0 where
   pub one : (v : ℕ) → at marked v ≤ 1
 
--- queue e leads from a marked station to v
-pub record Reaches (m : ℕ) (source sink marked : List ℕ) (v e : ℕ) : Type 0 where
-  pub queue : e < m
-  pub from : at marked (at source e) ≡ 1
-  pub to : v ≡ at sink e
+-- both ends of queue e are marked, or neither is
+abbrev pub OneSide : (source sink marked : List ℕ) (e : ℕ) → Type 0
+OneSide source sink marked e = at marked (at source e) ≡ at marked (at sink e)
 
--- r is a station that is not marked, at a queue whose other end is; or n, where both ends of each queue are marked or neither
-pub record Neighbour (n m : ℕ) (source sink marked : List ℕ) (r : ℕ) : Type 0 where
-  pub new : r < n → at marked r ≡ 0
-  pub beside : r < n → (e : ℕ) × (Reaches m source sink marked r e ⊎ Reaches m sink source marked r e)
-  pub none : n ≤ r → (e : ℕ) → e < m → at marked (at source e) ≡ at marked (at sink e)
+-- queue e has a marked station at its far end, and v at its near one
+pub record Beside (near far marked : List ℕ) (v e : ℕ) : Type 0 where
+  pub end : v ≡ at near e
+  pub known : at marked (at far e) ≡ 1
+
+-- the lowest queue with just one marked end, and the station at its other end; or m and n, where no queue has
+pub record Crosses (n m : ℕ) (source sink marked : List ℕ) (r : Crossing) : Type 0 where
+  pub lowest : LowestFailing (OneSide source sink marked) m (r .queue)
+  pub new : r .queue < m → at marked (r .station) ≡ 0
+  pub beside : r .queue < m → Beside source sink marked (r .station) (r .queue) ⊎ Beside sink source marked (r .station) (r .queue)
+  pub nowhere : m ≤ r .queue → r .station ≡ n

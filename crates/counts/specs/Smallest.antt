@@ -1,4 +1,4 @@
--- The smallest counts, or refusal 7.
+-- The smallest counts, or that none fit.
 use Prim.Native.Nat.{ℕ, _≤_}
 use mathlib.Core.Path.{_≡_}
 use mathlib.Core.Bool.{true, false}

@@ -1,13 +1,20 @@
 // Whether the stations are joined, directions ignored.
 ghost use Rattle.lists.specs.Test.{Tells};
-ghost use Rattle.counts.specs.Joining.{Ends, AllJoined, Marks, Neighbour};
+ghost use Rattle.counts.specs.Joining.{Ends, AllJoined, Marks, Crosses};
+use crate::Crossing;
 use chain::wide;
 
-// A station that is not marked, at a queue whose other end is, or n where no queue has just one marked end.
+// The lowest queue with just one marked end, and its other end; m and n where there is none.
 // One scan of at most m queues.
-fn neighbour(n: usize, m: usize, source: &[u16; 64], sink: &[u16; 64], marked: &[u8; 32]) -> usize
+pub fn lowest_crossing(
+    n: usize,
+    m: usize,
+    source: &[u16; 64],
+    sink: &[u16; 64],
+    marked: &[u8; 32],
+) -> Crossing
     requires { ⌜ Ends n m (now source) (now sink) × Marks (now marked) ⌝ }
-    ensures { λ r. ⌜ Neighbour n m (now (source .entry)) (now (sink .entry)) (now (marked .entry)) r ⌝ }
+    ensures { λ r. ⌜ Crosses n m (now (source .entry)) (now (sink .entry)) (now (marked .entry)) r ⌝ }
 {
     let mut e = 0;
     while e < m {
@@ -15,13 +22,22 @@ fn neighbour(n: usize, m: usize, source: &[u16; 64], sink: &[u16; 64], marked: &
         let v = wide(sink[e]);
         if marked[u] != marked[v] {
             if marked[u] == 0 {
-                return u;
+                return Crossing {
+                    queue: e,
+                    station: u,
+                };
             }
-            return v;
+            return Crossing {
+                queue: e,
+                station: v,
+            };
         }
         e += 1;
     }
-    n
+    Crossing {
+        queue: m,
+        station: n,
+    }
 }
 
 // Marks the stations that are joined to station 0, one after the other, and counts them.
@@ -34,10 +50,11 @@ pub fn joined(n: usize, m: usize, source: &[u16; 64], sink: &[u16; 64]) -> bool
     marked[0] = 1;
     let mut count = 1;
     while count < n {
-        let v = neighbour(n, m, source, sink, &marked);
-        if n <= v {
+        let crossed = lowest_crossing(n, m, source, sink, &marked);
+        if m <= crossed.queue {
             return false;
         }
+        let v = crossed.station;
         marked[v] = 1;
         count += 1;
     }

@@ -41,7 +41,7 @@ fn moved(station: &[u16; 64], rate: &[u16; 64], q: &[u16; 32], e: usize) -> u16
 }
 
 // The lowest of m queues that doesn't balance, or m. One scan of at most m queues.
-fn unbalanced(
+fn lowest_unmet(
     m: usize,
     source: &[u16; 64],
     sink: &[u16; 64],
@@ -114,7 +114,7 @@ pub fn counts(
     let mut q = ones(n);
     let mut total = n;
     while total <= 256 {
-        let e = unbalanced(m, source, sink, produced, consumed, &q);
+        let e = lowest_unmet(m, source, sink, produced, consumed, &q);
         if m <= e {
             return Counted {
                 fits: true,

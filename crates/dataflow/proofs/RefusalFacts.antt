@@ -6,15 +6,17 @@ use native.Mathlib.Omega.{arith}
 use native.Mathlib.Decide.{ℕ-discrete, decLe, decLt}
 use lib.Dec.{lit≤, lit<}
 use lib.IntN.{pos, negsuc}
+use Rattle.refusals.specs.First.{Lowest}
 use Rattle.dataflow.specs.Net.{Net}
 use Rattle.dataflow.specs.Paths.{alone}
 use Rattle.dataflow.specs.Retiming.{retimed, byHand}
-use Rattle.dataflow.specs.Refusals.{Joined, here, along, against, apartRow, countsRow, handRow, moveRow, tokenRow, slowRow, stuckRow, retimingRow}
+use Rattle.dataflow.specs.Refusals.{Joined, here, along, against, apartRow, unbalancedRow, countsRow, handRow, moveRow, tokenRow, slowRow, stuckRow, retimingRow}
 use Rattle.dataflow.specs.Sheet.{net, delays}
 use Rattle.dataflow.specs.Samples.{sheet, lone, queue}
 use Rattle.dataflow.proofs.Decide.{by-yes, list-dec}
 use Rattle.dataflow.proofs.BenchFacts.{GK, dK, sound-K, stuck-K}
 use Rattle.dataflow.proofs.SumTable.{latest, edge-dec}
+use Rattle.dataflow.proofs.NumberLaws.{number-of}
 use Rattle.dataflow.proofs.Computed.{computed-period}
 
 -- 6: two stations and no queue
@@ -29,9 +31,16 @@ only-itself (against e j) = absurd (omega (arith, e .1))
 refused-6 : apartRow apartNet .applies 0
 refused-6 h = omega (arith, only-itself (h 0 1 (lit< tt) (lit< tt)))
 
--- 7: one self-queue, rates 1 and 2
-refused-7 : countsRow (net (lone 1 (queue 0 0 1 2 0 ∷ []) 1) (1 ∷ [])) .applies 0
-refused-7 x b few = omega (arith, b .balanced (0, lit< tt), b .positive 0 (lit< tt))
+-- 16: one self-queue, rates 1 and 2
+refused-16 : Lowest (unbalancedRow (net (lone 1 (queue 0 0 1 2 0 ∷ []) 1) (1 ∷ []))) 0
+refused-16 = record {
+  applies = ((0, lit< tt), number-of 1 0 (lit< tt), λ x b. omega (arith, b .balanced (0, lit< tt) 0 (number-of 1 0 (lit< tt)) (lit≤ tt), b .positive 0 (lit< tt)));
+  none-below = λ i h. absurd (omega arith);
+}
+
+-- 7: counts 1, 64 and 4,096
+refused-7 : countsRow (net (sheet (1 ∷ 1 ∷ 1 ∷ []) (queue 0 1 64 1 0 ∷ queue 1 2 64 1 0 ∷ []) 1) (1 ∷ 1 ∷ 1 ∷ [])) .applies 0
+refused-7 x b few = omega (arith, b .balanced (0, lit< tt), b .balanced (1, lit< tt), b .positive 0 (lit< tt))
 
 -- 8: K(1,9)
 refused-8 : stuckRow (GK 1 9) (dK 1 9) .applies 0

@@ -1,11 +1,11 @@
--- When the planner says no: the rows of the table that speak of nets, 6 to 9 and 12 to 15.
+-- When the planner says no: the rows of the table that speak of nets, 6 to 9 and 12 to 16.
 use mathlib.Core.Path.{_≡_}
 use mathlib.Core.List.{List}
 use mathlib.Core.Option.{some}
-use Prim.Native.Nat.{ℕ, _≤_, _<_}
+use Prim.Native.Nat.{ℕ, _*_, _≤_, _<_}
 use lib.ListN.{length, getElem?}
 use lib.IntN.{ℤ, natAbs}
-use Rattle.refusals.specs.Table.{apart, counts-fail, stuck, no-retiming, hand, negative, slow, token}
+use Rattle.refusals.specs.Table.{apart, unbalanced, counts-fail, stuck, no-retiming, hand, negative, slow, token}
 use Rattle.refusals.specs.First.{Row, row}
 use Rattle.dataflow.specs.Net.{Net, Balances}
 use Rattle.dataflow.specs.Counts.{sum}
@@ -28,6 +28,19 @@ module _ (G : Net) where
   -- 6: stations not joined.
   abbrev pub apartRow : Row
   apartRow = row apart (¬ ((u v : ℕ) → u < G .stations → v < G .stations → Joined u v))
+
+  -- Queue e has this number, from 0.
+  abbrev pub HasNumber : G .Queue → ℕ → Type 0
+  HasNumber e place = getElem? (G .queues) place ≡ some e
+
+  -- x is positive and balances queues 0 to `last`. Stations that these queues don't join are free of each other.
+  pub record BalancesTo (last : ℕ) (x : ℕ → ℕ) : Type 0 where
+    pub positive : (v : ℕ) → v < G .stations → 1 ≤ x v
+    pub balanced : (e : G .Queue) (place : ℕ) → HasNumber e place → place ≤ last → x (G .source e) * G .produced e ≡ x (G .sink e) * G .consumed e
+
+  -- 16: no vector of any size balances queues 0 to the one of this number.
+  abbrev pub unbalancedRow : Row
+  unbalancedRow = record { refusal = unbalanced; applies = λ place. (e : G .Queue) × HasNumber e place × ((x : ℕ → ℕ) → ¬ BalancesTo place x) }
 
   -- 7: no positive vector with sum at most 256 balances every queue.
   abbrev pub countsRow : Row
@@ -59,10 +72,6 @@ module _ (G : Net) where
   -- 12, for one move: it isn't.
   abbrev pub moveRow : (v i : ℕ) (r : ℤ) → Row
   moveRow v i r = row hand (¬ MoveFits v i r)
-
-  -- Queue e has this number, from 0.
-  abbrev pub HasNumber : G .Queue → ℕ → Type 0
-  HasNumber e place = getElem? (G .queues) place ≡ some e
 
   -- 13: a new delay below 0, at the queue of this number.
   abbrev pub negativeRow : (d : G .Queue → ℕ) (r : ℕ → ℤ) → Row

@@ -1,4 +1,4 @@
--- What a hand check answers: refusals 1 to 8 and 12 to 14, or the resulting period.
+-- What a hand check answers: refusals 1 to 8 with 16, and 12 to 14, or the resulting period.
 use Prim.Native.Nat.{ℕ}
 use mathlib.Core.Path.{refl}
 use mathlib.Core.List.{List, [], _∷_, _++_}

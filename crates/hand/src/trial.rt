@@ -123,7 +123,7 @@ fn shifted(checked: Checked, hand: &[i32]) -> HandPeriod
     }
 }
 
-// The check of a hand list of any length, for bytes of any length: the first of refusals 1 to 8 and 12 to 14 that applies, or the resulting period.
+// The check of a hand list of any length, for bytes of any length: the first of refusals 1 to 8 with 16, and 12 to 14 that applies, or the resulting period.
 pub fn hand_period(s: &[u8], hand: &[i32]) -> HandPeriod
     ensures { λ a. ⌜ HandChecks (now (s .entry)) (now (hand .entry)) a ⌝ }
 {

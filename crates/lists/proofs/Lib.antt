@@ -1,4 +1,5 @@
 pub mod Order
+pub mod LowestLaws
 pub mod FrontLaws
 pub mod PartLaws
 pub mod JoinedLaws

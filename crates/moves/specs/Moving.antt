@@ -1,4 +1,4 @@
--- What one move answers: refusals 1 to 8 and 12, or where the copy goes.
+-- What one move answers: refusals 1 to 8 with 16, and 12, or where the copy goes.
 use Prim.Native.Nat.{ℕ}
 use mathlib.Core.Path.{refl}
 use mathlib.Core.List.{List, [], _∷_, _++_}

@@ -55,7 +55,7 @@ fn fitting(checked: Checked, station: usize, copy: u32, r: i32) -> Moved
     moved(count, copy, r)
 }
 
-// The move of a station's copy by r, for bytes of any length: the first of refusals 1 to 8 and 12 that applies, or where the copy goes.
+// The move of a station's copy by r, for bytes of any length: the first of refusals 1 to 8 with 16, and 12 that applies, or where the copy goes.
 pub fn one_move(s: &[u8], station: usize, copy: u32, r: i32) -> Moved
     ensures { λ a. ⌜ OneMove (now (s .entry)) station copy r a ⌝ }
 {

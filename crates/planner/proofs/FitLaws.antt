@@ -26,7 +26,7 @@ module _ (s start round times : List ℕ) (r : Planning) (start′ round′ time
   worked = record { counts = p .counts; retimes = p .promise .holds .retiming; backs = p .promise .holds .back }
 
   room-free : Passed (roomRow (sheetOf s) (length start) (length round) (length times))
-  room-free = all-passed (a .verdict) ok 9 (omega arith)
+  room-free = all-passed (a .verdict) ok 10 (omega arith)
 
   starts-are : r .starts ≡ startLength (sheetOf s .n) (r .q) (r .retiming) (r .back)
   starts-are = p .starts ∙ sum-same (sheetOf s .n) (at (r .start)) (λ v. r .back * at (r .q) v - at (r .retiming) v) (λ v h. omega (arith, p .firings .is v h))

@@ -1,8 +1,8 @@
 -- Buffers of 65,536, 256 and 256 entries are never too short.
-use Prim.Native.Nat.{ℕ, suc, _+_, _-_, _*_, _≤_, _<_}
-use mathlib.Core.Path.{_≡_, refl, subst}
+use Prim.Native.Nat.{ℕ, _-_, _*_, _≤_, _<_}
+use mathlib.Core.Path.{_≡_, sym, subst}
 use mathlib.Core.List.{List, [], _++_}
-use mathlib.Core.Logic.{_⊎_, ⊎-elim}
+use mathlib.Core.Logic.{⊎-elim}
 use native.Mathlib.Nat.{mul-le-mul}
 use native.Mathlib.Omega.{arith}
 use lib.ListN.{length}
@@ -53,14 +53,14 @@ module _ (f : Sheet) (q : List ℕ) (W : Sound (netFor f q)) (some : 1 ≤ f .n)
       omega (arith, sum-le (f .n) (λ v. back * at q v - at retiming v) (λ v. back * at q v) (λ v. omega arith), sum-times (f .n) back (at q), mul-le-mul most few)
 
 module _ (s : List ℕ) (x y z place : ℕ) (g : Given (planRows s x y z) 11 place) where
-  -- the first nine rows of planning are numbered from 1, so that 11 is the tenth's
-  numbered : (i : ℕ) → i < 9 → number (nth (planRows s x y z) i .refusal) ≡ suc i
-  numbered = upto (λ i. number (nth (planRows s x y z) i .refusal) ≡ suc i) 9 (((((((((tt, refl), refl), refl), refl), refl), refl), refl), refl), refl)
+  -- no row of planning but the last is 11
+  no-other : (i : ℕ) → i < 10 → number (nth (planRows s x y z) i .refusal) ≡ 11 → ⊥
+  no-other = upto (λ i. number (nth (planRows s x y z) i .refusal) ≡ 11 → ⊥) 10 ((((((((((tt, λ e. omega arith), λ e. omega arith), λ e. omega arith), λ e. omega arith), λ e. omega arith), λ e. omega arith), λ e. omega arith), λ e. omega arith), λ e. omega arith), λ e. omega arith)
 
-  last : g .row ≡ 9
-  last = order (g .row) 9 (λ lt. absurd (omega (arith, numbered (g .row) lt, g .is))) (λ eq. eq) (λ gt. absurd (omega (arith, g .here)))
+  last : g .row ≡ 10
+  last = order (g .row) 10 (λ lt. absurd (no-other (g .row) lt (sym (g .is)))) (λ eq. eq) (λ gt. absurd (omega (arith, g .here)))
 
-  earlier : (j : ℕ) → j < 9 → Passed (nth (planRows s x y z) j)
+  earlier : (j : ℕ) → j < 10 → Passed (nth (planRows s x y z) j)
   earlier j b = g .before j (omega (arith, last))
 
   read-free : (j : ℕ) → j < 5 → Passed (nth (readRows s) j)
@@ -75,8 +75,8 @@ module _ (s : List ℕ) (x y z place : ℕ) (g : Given (planRows s x y z) 11 pla
       let q = short .0 in
       let c = short .3 .counts in
       let W = rows-sound s read-free q c in
-      let few = counts-few f (earlier 6 (omega arith)) q c in
-      let fires : RoundFires (netFor f q) (delaysFor f q) = ⊎-elim (λ h. h) (λ h. absurd (earlier 7 (omega arith) 0 (q, c, h))) (fires-or-stuck (netFor f q) W (delaysFor f q)) in
+      let few = counts-few f (earlier 7 (omega arith)) q c in
+      let fires : RoundFires (netFor f q) (delaysFor f q) = ⊎-elim (λ h. h) (λ h. absurd (earlier 8 (omega arith) 0 (q, c, h))) (fires-or-stuck (netFor f q) W (delaysFor f q)) in
       ⊎-elim
       (λ h. omega (arith, start-few f q W (rows-chain s read-free .some) few fires (short .1) (short .2) (short .3)))
       (λ h. ⊎-elim (λ k. omega arith) (λ k. omega arith) h)

@@ -211,7 +211,7 @@ fn searched(checked: Checked, start: &mut [u16], round: &mut [u16], times: &mut 
     begun(checked, found, start, round, times)
 }
 
-// Plans a sheet of any bytes with three lent buffers of any length: the first of refusals 1 to 9 and 11 that applies, or the plan. The start list, the round list and the time
+// Plans a sheet of any bytes with three lent buffers of any length: the first of refusals 1 to 9 with 16, and 11, that applies, or the plan. The start list, the round list and the time
 // table go to the first needed entries of the buffers; a refusal writes to none.
 pub fn plan(s: &[u8], start: &mut [u16], round: &mut [u16], times: &mut [u32]) -> Planning
     ensures { λ r. ⌜ Plans (now (s .entry)) (now (start .entry)) (now (round .entry)) (now (times .entry)) r (now (start .exit)) (now (round .exit)) (now (times .exit)) ⌝ }

@@ -30,13 +30,13 @@ none-behind from (suc count) o =
     let before = none-behind from count (o .0) in
     (before .0, λ x a b e. elim (ℕ-discrete x (from + suc count)) [ yes q ↦ o .1 (sym e ∙ q) | no q ↦ before .1 x a (omega arith) e ])
 
--- no word: n is none of 1 to 9 and none of 11 to 15
-pub spelled-none : {n : ℕ} {r : Letters} → NoneBehind (NoneBehind (Unit {0}) 0 9 n) 10 5 n → r .1 ≡ 0 → Spelled n r
+-- no word: n is none of 1 to 9 and none of 11 to 16
+pub spelled-none : {n : ℕ} {r : Letters} → NoneBehind (NoneBehind (Unit {0}) 0 9 n) 10 6 n → r .1 ≡ 0 → Spelled n r
 spelled-none {n} o z = record { fits = omega arith; known = λ k e. absurd (none k e); unknown = λ none. z }
   where
     none : (k : Refusal) → number k ≡ n → ⊥
     none k e =
-        let high = none-behind 10 5 o in
+        let high = none-behind 10 6 o in
         let low = none-behind 0 9 (high .0) in
         let within = number-within k in
         order (number k) 10

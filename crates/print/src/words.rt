@@ -23,6 +23,7 @@ pub(crate) fn word(number: u32) -> Letters
         13 => Letters(*b"negative   ", 8),
         14 => Letters(*b"slow       ", 4),
         15 => Letters(*b"token      ", 5),
+        16 => Letters(*b"unbalanced ", 10),
         _ => Letters(*b"           ", 0),
     }
 }

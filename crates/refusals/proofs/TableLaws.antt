@@ -5,14 +5,14 @@ use mathlib.Core.List.{[], _∷_}
 use native.Mathlib.Decide.{ℕ-discrete}
 use native.Mathlib.Omega.{arith}
 use lib.ListN.{getD}
-use Rattle.refusals.specs.Table.{Refusal, short, version, counts, layout, field, apart, counts-fail, stuck, no-retiming, room, hand, negative, slow, token, number}
+use Rattle.refusals.specs.Table.{Refusal, short, version, counts, layout, field, apart, counts-fail, stuck, no-retiming, room, hand, negative, slow, token, unbalanced, number}
 
 -- the refusal with a number; short where none has it
 numbered : ℕ → Refusal
-numbered x = getD (short ∷ short ∷ version ∷ counts ∷ layout ∷ field ∷ apart ∷ counts-fail ∷ stuck ∷ no-retiming ∷ short ∷ room ∷ hand ∷ negative ∷ slow ∷ token ∷ []) x short
+numbered x = getD (short ∷ short ∷ version ∷ counts ∷ layout ∷ field ∷ apart ∷ counts-fail ∷ stuck ∷ no-retiming ∷ short ∷ room ∷ hand ∷ negative ∷ slow ∷ token ∷ unbalanced ∷ []) x short
 
--- each number is from 1 to 15 and not 10, and leads back to its refusal
-in-table : (k : Refusal) → ((0 < number k) × ((number k ≤ 15) × (number k ≡ 10 → ⊥))) × (numbered (number k) ≡ k)
+-- each number is from 1 to 16 and not 10, and leads back to its refusal
+in-table : (k : Refusal) → ((0 < number k) × ((number k ≤ 16) × (number k ≡ 10 → ⊥))) × (numbered (number k) ≡ k)
 unfolding numbered
 in-table short = ((omega arith, (omega arith, λ e. omega arith)), refl)
 in-table version = ((omega arith, (omega arith, λ e. omega arith)), refl)
@@ -28,8 +28,9 @@ in-table hand = ((omega arith, (omega arith, λ e. omega arith)), refl)
 in-table negative = ((omega arith, (omega arith, λ e. omega arith)), refl)
 in-table slow = ((omega arith, (omega arith, λ e. omega arith)), refl)
 in-table token = ((omega arith, (omega arith, λ e. omega arith)), refl)
+in-table unbalanced = ((omega arith, (omega arith, λ e. omega arith)), refl)
 
-pub number-within : (k : Refusal) → (0 < number k) × (number k ≤ 15)
+pub number-within : (k : Refusal) → (0 < number k) × (number k ≤ 16)
 number-within k = let x = in-table k .0 in (x .0, x .1 .0)
 
 -- no refusal has the number 10

@@ -3,7 +3,7 @@ use Prim.Native.Nat.{ℕ}
 use mathlib.Core.List.{List, [], _∷_}
 
 pub data Refusal : Type 0 where
-  short version counts layout field apart counts-fail stuck no-retiming room hand negative slow token : Refusal
+  short version counts layout field apart counts-fail stuck no-retiming room hand negative slow token unbalanced : Refusal
 
 abbrev pub number : Refusal → ℕ
 number short = 1
@@ -20,6 +20,7 @@ number hand = 12
 number negative = 13
 number slow = 14
 number token = 15
+number unbalanced = 16
 
 -- The words as bytes: each line spells the name of its case.
 abbrev pub word : Refusal → List ℕ
@@ -37,3 +38,4 @@ word hand = 104 ∷ 97 ∷ 110 ∷ 100 ∷ []
 word negative = 110 ∷ 101 ∷ 103 ∷ 97 ∷ 116 ∷ 105 ∷ 118 ∷ 101 ∷ []
 word slow = 115 ∷ 108 ∷ 111 ∷ 119 ∷ []
 word token = 116 ∷ 111 ∷ 107 ∷ 101 ∷ 110 ∷ []
+word unbalanced = 117 ∷ 110 ∷ 98 ∷ 97 ∷ 108 ∷ 97 ∷ 110 ∷ 99 ∷ 101 ∷ 100 ∷ []

@@ -1,4 +1,4 @@
--- What the origin of a token is told as: refusals 1 to 8 and 15, or the token.
+-- What the origin of a token is told as: refusals 1 to 8 with 16, and 15, or the token.
 use Prim.Native.Nat.{ℕ}
 use mathlib.Core.Path.{_≡_, refl}
 use mathlib.Core.List.{List, [], _∷_, _++_}

@@ -56,7 +56,7 @@ fn found(sheet: Sheet, queue: usize, firing: u32, token: u32) -> Origin
     at_place(delay, produced, place_taken(consumed, firing, token))
 }
 
-// The origin of a token of a sink's firing on a queue, for bytes of any length: the first of refusals 1 to 8 and 15 that applies, or the token.
+// The origin of a token of a sink's firing on a queue, for bytes of any length: the first of refusals 1 to 8 with 16, and 15 that applies, or the token.
 pub fn origin_of(s: &[u8], queue: usize, firing: u32, token: u32) -> Origin
     ensures { λ r. ⌜ TellsToken (now (s .entry)) queue firing token r ⌝ }
 {

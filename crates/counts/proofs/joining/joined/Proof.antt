@@ -1,8 +1,9 @@
 use Prim.Native.Nat.{_-_}
 use mathlib.Core.Path.{refl}
+use native.Mathlib.Omega.{arith}
 use borrow.Author.Needs.{needs}
 use Rattle.lists.proofs.TestLaws.{tells-true, tells-false}
-use Rattle.counts.proofs.MarkLaws.{Marking, mark-first, mark-next, all-joined, not-joined}
+use Rattle.counts.proofs.MarkLaws.{Marking, mark-first, new-station, mark-next, all-joined, not-joined}
 use Rattle.counts.proofs.joining.joined.Statement.{statement}
 use Rattle.counts.proofs.joining.joined.Tie as tie
 
@@ -18,14 +19,19 @@ array-write-marked c = search needs
 loop-holds : tie.Need-loop-holds Inv-loop μ-loop
 loop-holds c = mark-first _ _ _ _ (c .pre .some)
 
-neighbour-requires : tie.Need-neighbour-requires Inv-loop μ-loop
-neighbour-requires c κs = search needs
+lowest-crossing-requires : tie.Need-lowest-crossing-requires Inv-loop μ-loop
+lowest-crossing-requires c κs = search needs
 
 returns : tie.Need-returns Inv-loop μ-loop
-returns c = tells-false refl (not-joined _ _ _ _ _ _ (c .before .before .before .before .loop .inv) _ (search needs) (search needs) (c .before .neighbour .ensures) (c .if1 .taken))
+returns c =
+    let x = c .before .before in
+    tells-false refl (not-joined _ _ _ _ _ _ (x .before .before .before .loop .inv) _ (search needs) (search needs) (x .lowest-crossing .ensures) (c .if1 .taken))
 
 array-write-marked-2 : tie.Need-array-write-marked-2 Inv-loop μ-loop
-array-write-marked-2 c = search needs
+array-write-marked-2 c =
+    let x = c .before .before in
+    let l = x .before .before .before in
+    omega (arith, new-station _ _ _ _ _ _ (l .loop .inv) _ (x .lowest-crossing .ensures) (c .if1 .left) (l .before .pre), l .before .pre .few)
 
 add-count : tie.Need-add-count Inv-loop μ-loop
 add-count c = search needs
@@ -34,7 +40,10 @@ loop-less : tie.Need-loop-less Inv-loop μ-loop
 loop-less c = search needs
 
 loop-again : tie.Need-loop-again Inv-loop μ-loop
-loop-again c = mark-next _ _ _ _ _ _ (c .before .before .before .before .loop .inv) _ (search needs) (c .before .neighbour .ensures) (c .if1 .left)
+loop-again c =
+    let x = c .before .before in
+    let l = x .before .before .before in
+    mark-next _ _ _ _ _ _ (l .loop .inv) _ (x .lowest-crossing .ensures) (c .if1 .left) (l .before .pre)
 
 returns-2 : tie.Need-returns-2 Inv-loop μ-loop
 returns-2 c = tells-true refl (all-joined _ _ _ _ _ _ (c .before .loop .inv) (c .loop-test .left))
@@ -47,7 +56,7 @@ joined-spec =
     μ-loop
     array-write-marked
     loop-holds
-    neighbour-requires
+    lowest-crossing-requires
     returns
     array-write-marked-2
     add-count

@@ -30,18 +30,18 @@ ones-requires c κs = search needs
 loop-holds : tie.Need-loop-holds Inv-loop μ-loop
 loop-holds c = raise-begin _ _ _ _ _ _ _ (c .ones .ensures)
 
-unbalanced-requires : tie.Need-unbalanced-requires Inv-loop μ-loop
-unbalanced-requires c κs = (queue-fits (c .before .before .before .before .pre), counts-small _ _ _ _ _ _ _ _ (c .before .before .loop .inv) (c .before .loop-test .taken))
+lowest-unmet-requires : tie.Need-lowest-unmet-requires Inv-loop μ-loop
+lowest-unmet-requires c κs = (queue-fits (c .before .before .before .before .pre), counts-small _ _ _ _ _ _ _ _ (c .before .before .loop .inv) (c .before .loop-test .taken))
 
 returns : tie.Need-returns Inv-loop μ-loop
 returns c =
     let l = c .before .before .before in
-    found _ _ _ _ _ _ _ _ (l .before .loop .inv) _ (l .loop-test .taken) (c .before .unbalanced .ensures) (c .if1 .taken)
+    found _ _ _ _ _ _ _ _ (l .before .loop .inv) _ (l .loop-test .taken) (c .before .lowest-unmet .ensures) (c .if1 .taken)
 
 raise-requires : tie.Need-raise-requires Inv-loop μ-loop
 raise-requires c κs =
     let l = c .before .before .before .before in
-    (queue-fits (l .before .before .before .pre) _ (c .before .if1 .left), (counts-small _ _ _ _ _ _ _ _ (l .before .loop .inv) (l .loop-test .taken), c .before .before .unbalanced .ensures .fails (c .before .if1 .left)))
+    (queue-fits (l .before .before .before .pre) _ (c .before .if1 .left), (counts-small _ _ _ _ _ _ _ _ (l .before .loop .inv) (l .loop-test .taken), c .before .before .lowest-unmet .ensures .fails (c .before .if1 .left)))
 
 wide-requires : tie.Need-wide-requires Inv-loop μ-loop
 wide-requires c κs = search needs
@@ -86,7 +86,7 @@ counts-spec =
     μ-loop
     ones-requires
     loop-holds
-    unbalanced-requires
+    lowest-unmet-requires
     returns
     raise-requires
     wide-requires

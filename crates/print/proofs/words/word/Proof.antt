@@ -1,6 +1,6 @@
 use mathlib.Core.Path.{refl}
 use native.Mathlib.Omega.{arith}
-use Rattle.refusals.specs.Table.{short, version, counts, layout, field, apart, counts-fail, stuck, no-retiming, room, hand, negative, slow, token}
+use Rattle.refusals.specs.Table.{short, version, counts, layout, field, apart, counts-fail, stuck, no-retiming, room, hand, negative, slow, token, unbalanced}
 use Rattle.print.proofs.SpelledLaws.{spelled, NoneBehind, spelled-none}
 use Rattle.print.proofs.words.word.Statement.{statement}
 use Rattle.print.proofs.words.word.Tie as tie
@@ -48,8 +48,11 @@ returns-14 : tie.Need-returns-14
 returns-14 c = spelled token (omega arith) (omega arith) refl
 
 returns-15 : tie.Need-returns-15
+returns-15 c = spelled unbalanced (omega arith) (omega arith) refl
+
+returns-16 : tie.Need-returns-16
 unfolding NoneBehind
-returns-15 c = spelled-none (c .before .before .match .rest) refl
+returns-16 c = spelled-none (c .before .before .match .rest) refl
 
 pub word-spec : {M : Type 1} → statement M
 word-spec =
@@ -69,4 +72,5 @@ word-spec =
     returns-12
     returns-13
     returns-14
-    returns-15)
+    returns-15
+    returns-16)

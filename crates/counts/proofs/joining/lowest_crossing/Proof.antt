@@ -1,15 +1,15 @@
 use Prim.Native.Nat.{ℕ, _≤_, _<_, _-_}
-use mathlib.Core.Path.{_≡_}
+use mathlib.Core.Path.{refl}
 use native.Mathlib.Omega.{arith}
 use borrow.Author.Needs.{needs}
 use borrow.Author.Count.{below-none, below-more}
-use Rattle.lists.specs.Front.{at}
+use Rattle.counts.specs.Joining.{OneSide}
 use Rattle.counts.proofs.MarkLaws.{source-new, sink-new}
-use Rattle.counts.proofs.joining.neighbour.Statement.{statement}
-use Rattle.counts.proofs.joining.neighbour.Tie as tie
+use Rattle.counts.proofs.joining.lowest_crossing.Statement.{statement}
+use Rattle.counts.proofs.joining.lowest_crossing.Tie as tie
 
 abbrev Inv-loop : tie.InvT-loop
-Inv-loop n m source sink marked e₀ e = ((k : ℕ) → k < e → at marked (at source k) ≡ at marked (at sink k)) × (e ≤ m)
+Inv-loop n m source sink marked e₀ e = ((k : ℕ) → k < e → OneSide source sink marked k) × (e ≤ m)
 
 abbrev μ-loop : tie.MeasureT-loop
 μ-loop n m source sink marked e₀ e = m - e
@@ -57,13 +57,13 @@ returns : tie.Need-returns Inv-loop μ-loop
 returns c =
     let w = c .before .before .before .before .before in
     let s = in-loop w .before .before in
-    source-new (s .pre .0) (s .pre .1) (in-loop w .loop-test .taken) (w .before .before .wide .ensures .0) (w .wide2 .ensures .0) (c .before .before .if1 .taken) (c .if2 .taken)
+    source-new _ _ _ (s .pre .1) (in-loop w .loop-test .taken) (in-loop w .before .loop .inv .0) (w .before .before .wide .ensures .0) (w .wide2 .ensures .0) (c .before .before .if1 .taken) (c .if2 .taken)
 
 returns-2 : tie.Need-returns-2 Inv-loop μ-loop
 returns-2 c =
     let w = c .before .before .before .before .before in
     let s = in-loop w .before .before in
-    sink-new (s .pre .0) (s .pre .1) (in-loop w .loop-test .taken) (w .before .before .wide .ensures .0) (w .wide2 .ensures .0) (c .before .before .if1 .taken) (c .if2 .left)
+    sink-new _ _ _ (s .pre .1) (in-loop w .loop-test .taken) (in-loop w .before .loop .inv .0) (w .before .before .wide .ensures .0) (w .wide2 .ensures .0) (c .before .before .if1 .taken) (c .if2 .left)
 
 add-e : tie.Need-add-e Inv-loop μ-loop
 add-e c = search needs
@@ -77,10 +77,15 @@ loop-again c =
     (below-more _ _ (in-loop w .before .loop .inv .0) (rw (← w .before .before .wide .ensures .0, ← w .wide2 .ensures .0) (c .if1 .left)), search needs)
 
 returns-3 : tie.Need-returns-3 Inv-loop μ-loop
-returns-3 c = record { new = λ l. absurd (omega arith); beside = λ l. absurd (omega arith); none = λ l e h. c .before .loop .inv .0 e (omega arith) }
+returns-3 c = record {
+  lowest = record { within = omega arith; below = λ k h. c .before .loop .inv .0 k (omega arith); fails = λ l. absurd (omega arith) };
+  new = λ l. absurd (omega arith);
+  beside = λ l. absurd (omega arith);
+  nowhere = λ l. refl;
+}
 
-pub neighbour-spec : {M : Type 1} → statement M
-neighbour-spec =
+pub lowest-crossing-spec : {M : Type 1} → statement M
+lowest-crossing-spec =
     tie.close
     (tie.spec
     Inv-loop

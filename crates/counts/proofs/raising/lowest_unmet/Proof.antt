@@ -4,8 +4,8 @@ use borrow.Author.Needs.{needs}
 use borrow.Author.Count.{below-none, below-more}
 use Rattle.lists.specs.Front.{at}
 use Rattle.counts.specs.Raising.{Balanced}
-use Rattle.counts.proofs.raising.unbalanced.Statement.{statement}
-use Rattle.counts.proofs.raising.unbalanced.Tie as tie
+use Rattle.counts.proofs.raising.lowest_unmet.Statement.{statement}
+use Rattle.counts.proofs.raising.lowest_unmet.Tie as tie
 
 abbrev Inv-loop : tie.InvT-loop
 Inv-loop m source sink produced consumed q e₀ e = ((k : ℕ) → k < e → Balanced source sink produced consumed (at q) k) × (e ≤ m)
@@ -37,8 +37,8 @@ loop-again c = (below-more _ _ (c .before .before .before .before .loop .inv .0)
 returns-2 : tie.Need-returns-2 Inv-loop μ-loop
 returns-2 c = record { within = search needs; below = c .before .loop .inv .0; fails = λ l. absurd (omega arith) }
 
-pub unbalanced-spec : {M : Type 1} → statement M
-unbalanced-spec =
+pub lowest-unmet-spec : {M : Type 1} → statement M
+lowest-unmet-spec =
     tie.close
     (tie.spec
     Inv-loop

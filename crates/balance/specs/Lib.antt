@@ -1,0 +1,3 @@
+pub mod Spoiled
+pub mod Way
+pub mod Tree
