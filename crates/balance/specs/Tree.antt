@@ -15,6 +15,7 @@ pub record SeenFrom (near-end far-end near-rate far-rate : List ℕ) (k v : ℕ)
   pub near : r .near ≡ at near-rate k
   pub far : r .far ≡ at far-rate k
 
+-- queue k as the station v at one of its ends sees it
 abbrev pub Sees : (source sink produced consumed : List ℕ) (k v : ℕ) (r : Seen) → Type 0
 Sees source sink produced consumed k v r = SeenFrom source sink produced consumed k v r ⊎ SeenFrom sink source consumed produced k v r
 
