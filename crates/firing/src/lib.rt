@@ -4,6 +4,7 @@ mod late;
 mod scan;
 mod thread;
 mod times;
+mod walk;
 
 pub use fire::fire_list;
 pub use late::late_counts;

@@ -74,6 +74,9 @@ fn period_with(checked: Checked, new: [u32; 64]) -> u32
         &q,
         &mut list,
     );
+    let out = firing::threads(n, m, &source);
+    let out_head = out.head;
+    let out_next = out.next;
     let table = firing::time_table(
         n,
         m,
@@ -83,8 +86,8 @@ fn period_with(checked: Checked, new: [u32; 64]) -> u32
         &produced,
         &consumed,
         &new,
-        &head,
-        &next,
+        &out_head,
+        &out_next,
         &q,
         &base,
         &time,

@@ -184,8 +184,6 @@ fn searched(checked: Checked, start: &mut [u16], round: &mut [u16], times: &mut 
     let produced = checked.sheet.produced;
     let consumed = checked.sheet.consumed;
     let delay = checked.delay;
-    let head = checked.head;
-    let next = checked.next;
     let q = checked.q;
     let time = checked.sheet.time;
     let list = checked.list;
@@ -198,8 +196,6 @@ fn searched(checked: Checked, start: &mut [u16], round: &mut [u16], times: &mut 
         &produced,
         &consumed,
         &delay,
-        &head,
-        &next,
         &q,
         &time,
         checked.sheet.target,

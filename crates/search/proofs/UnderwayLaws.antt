@@ -20,6 +20,7 @@ use Rattle.dataflow.specs.Retiming.{Serves}
 use Rattle.dataflow.specs.Search.{HowMany, Searched, nothing, raise, SearchEnds}
 use Rattle.dataflow.specs.Sheet.{Below}
 use Rattle.dataflow.proofs.EndLaws.{ends-at-plan, too-long}
+use Rattle.dataflow.proofs.EntryLaws.{entry-station}
 use Rattle.dataflow.proofs.LateLaws.{few-of, many-last, lates-of}
 use Rattle.dataflow.proofs.ListLaws.{run-length}
 use Rattle.dataflow.proofs.PlanLaws.{search-bound}
@@ -31,7 +32,6 @@ use Rattle.firing.specs.Late.{Readable, LatestEnd, LateCounts}
 use Rattle.firing.specs.Times.{Bases, Ordered, Tabled}
 use Rattle.firing.proofs.PeriodLaws.{period-is, late-is}
 use Rattle.chain.proofs.ChainLaws.{sound, count-few}
-use Rattle.firing.proofs.TableLaws.{here}
 use Rattle.search.specs.Cut.{keeps, lateFirst, Cuttable, Reordered}
 use Rattle.search.specs.Raise.{DelaysFit, NewDelays, Raised}
 use Rattle.search.specs.Found.{Retimes}
@@ -163,7 +163,7 @@ module _ (n m : ℕ) (source sink produced consumed delay time q : List ℕ) (to
               few = c .chain .few;
               most = c .few;
               long = u .ordered .long;
-              stations = here n m source sink produced consumed current time q total order (u .ordered) (u .ordered .long);
+              stations = entry-station G (initially G D) total order (u .ordered .long) (u .ordered .run);
               lates = late-few;
               beyond = c .beyond;
               whole = late-length (raisedBy G (at late) D) (λ e. omega (arith, legal e));

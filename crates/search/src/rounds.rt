@@ -1,7 +1,6 @@
 // The search.
 ghost use mathlib.Core.Path.{_≡_};
 ghost use Rattle.chain.specs.Chain.{DelaysGiven, CountedChain};
-ghost use Rattle.firing.specs.Thread.{Threads};
 ghost use Rattle.firing.specs.Times.{Ordered};
 ghost use Rattle.search.specs.Found.{nothingFound, Searches};
 use crate::Found;
@@ -33,17 +32,18 @@ pub fn search(
     produced: &[u16; 64],
     consumed: &[u16; 64],
     delay: &[u32; 64],
-    head: &[u16; 32],
-    next: &[u16; 64],
     q: &[u32; 32],
     time: &[u16; 32],
     target: u32,
     list: &[u16; 256],
 ) -> Found
-    requires { ⌜ CountedChain n m (now source) (now sink) (now produced) (now consumed) (now q) total × (Threads n m (now sink) (now head) (now next) × (DelaysGiven m (now delay) × Ordered n m (now source) (now sink) (now produced) (now consumed) (now delay) (now time) (now q) total (now list))) ⌝ }
+    requires { ⌜ CountedChain n m (now source) (now sink) (now produced) (now consumed) (now q) total × (DelaysGiven m (now delay) × Ordered n m (now source) (now sink) (now produced) (now consumed) (now delay) (now time) (now q) total (now list)) ⌝ }
     ensures { λ r. ⌜ Searches n m (now (source .entry)) (now (sink .entry)) (now (produced .entry)) (now (consumed .entry)) (now (delay .entry)) (now (time .entry)) (now (q .entry)) total target r ⌝ }
 {
     let base = firing::bases(n, q);
+    let out = firing::threads(n, m, source);
+    let head = out.head;
+    let next = out.next;
     let mut retiming = [0u32; 32];
     let mut current = *delay;
     let mut order = *list;
@@ -58,8 +58,8 @@ pub fn search(
             produced,
             consumed,
             &current,
-            head,
-            next,
+            &head,
+            &next,
             q,
             &base,
             time,

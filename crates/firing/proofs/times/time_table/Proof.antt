@@ -1,45 +1,38 @@
-use Prim.Native.Nat.{_+_, _-_, _≤_, _<_}
+use Prim.Native.Nat.{_-_, _≤_, _<_}
 use mathlib.Core.Path.{_≡_}
 use native.Mathlib.Omega.{arith}
-use lib.ListN.{length}
 use borrow.Author.Needs.{needs}
 use Rattle.lists.specs.Front.{at}
-use Rattle.dataflow.specs.Counts.{sum}
-use Rattle.firing.proofs.TableLaws.{TableSoFar, none-found, here, waits, place-within, one-more-found, all-found}
+use Rattle.firing.specs.Walk.{Walkable}
+use Rattle.firing.proofs.PushLaws.{copies-fit}
+use Rattle.firing.proofs.WalkedLaws.{WalkedSoFar, none-walked, walkable, step-walked, all-walked}
 use Rattle.firing.proofs.times.time_table.Statement.{statement}
 use Rattle.firing.proofs.times.time_table.Tie as tie
 
 abbrev Inv-loop : tie.InvT-loop
 Inv-loop n m total source sink produced consumed delay head next q base time list table₀ fired₀ k₀ table fired k =
-    (k ≤ total) × TableSoFar n m source sink produced consumed delay time q total list table fired k
+    (k ≤ total) × WalkedSoFar n m source sink produced consumed delay time q total list table fired k
 
 abbrev μ-loop : tie.MeasureT-loop
 μ-loop n m total source sink produced consumed delay head next q base time list table₀ fired₀ k₀ table fired k = total - k
 
 abbrev begin : tie.In-loop Inv-loop μ-loop → tie.Start Inv-loop μ-loop
-begin c = c .before .before
+begin i = i .before .before
 
-long : (c : tie.In-loop Inv-loop μ-loop) → begin c .args .total ≤ length (begin c .args .list .now)
-long c = begin c .pre .1 .1 .1 .1 .long
-
--- the station that fires
-station : (c : tie.After-wide Inv-loop μ-loop) → c .wide .result < begin (c .before .before) .args .n
-station c =
-    let i = c .before .before in
-    omega (arith, c .wide .ensures, here _ _ _ _ _ _ _ _ _ _ _ (begin i .pre .1 .1 .1 .1) (long i) (i .before .loop .k) (i .loop-test .taken))
-
-begins : (c : tie.After-wide Inv-loop μ-loop) → at (begin (c .before .before) .args .base .now) (c .wide .result) ≡ sum (c .wide .result) (at (begin (c .before .before) .args .q .now))
-begins c = begin (c .before .before) .pre .1 .1 .0 .is (c .wide .result) (omega (arith, station c))
-
--- the place of its start
-placed : (c : tie.After-wide Inv-loop μ-loop) → at (begin (c .before .before) .args .base .now) (c .wide .result) + at (c .before .before .before .loop .fired) (c .wide .result) < 256
-placed c =
-    let i = c .before .before in
+-- what the next copy of the station that fires asks for
+next : (w : tie.After-wide Inv-loop μ-loop) → (let l = w .before .before .before in
+    let a = l .before .args in
+    Walkable (a .n) (a .m) (a .source .now) (a .delay .now) (a .q .now) (a .base .now) (a .head .now) (a .next .now) (w .wide .result) (at (l .loop .fired) (w .wide .result)) (l .loop .table))
+next w =
+    let i = w .before .before in
     let a = begin i in
-    rw (begins c, c .wide .ensures .0) (place-within _ _ _ _ _ _ _ _ _ _ _ (a .pre .1 .1 .1 .1) (long i) (i .before .loop .k) (i .loop-test .taken) (a .pre .0) (i .before .loop .inv .1))
+    walkable _ _ _ _ _ _ _ _ _ _ _ (a .pre .0) (a .pre .1 .1 .1 .1) (i .before .loop .k) (i .loop-test .taken) (i .before .loop .inv .1) _ (w .wide .ensures .0) (a .pre .1 .1 .0) (a .pre .1 .1 .1 .0) (a .pre .1 .0)
+
+within : (w : tie.After-wide Inv-loop μ-loop) → w .wide .result < 32
+within w = omega (arith, next w .here, begin (w .before .before) .pre .0 .chain .few)
 
 loop-holds : tie.Need-loop-holds Inv-loop μ-loop
-loop-holds c = (search needs, none-found _ _ _ _ _ _ _ _ _ _ _)
+loop-holds c = (search needs, none-walked _ _ _ _ _ _ _ _ _ _ _)
 
 mul-wide : tie.Need-mul-wide Inv-loop μ-loop
 mul-wide c = search needs
@@ -50,56 +43,31 @@ element-copy-out-wide c = search needs
 wide-requires : tie.Need-wide-requires Inv-loop μ-loop
 wide-requires c κs = search needs
 
-start-of-requires : tie.Need-start-of-requires Inv-loop μ-loop
-start-of-requires c κs =
-    let i = c .before .before .before .before in
+mul-copy : tie.Need-mul-copy Inv-loop μ-loop
+mul-copy c = search needs
+
+array-read-copy : tie.Need-array-read-copy Inv-loop μ-loop
+array-read-copy c = within c
+
+walk-copy-requires : tie.Need-walk-copy-requires Inv-loop μ-loop
+walk-copy-requires c κs =
+    let w = c .before in
+    let i = w .before .before in
     let a = begin i in (
       a .pre .0,
-      (
-        a .pre .1 .0,
-        rw (c .before .before .wide .ensures .0)
-            (waits _ _ _ _ _ _ _ _ _ _ _ (a .pre .1 .1 .1 .1) (long i) (i .before .loop .k) (i .loop-test .taken) (a .pre .0) (i .before .loop .inv .1) (a .pre .1 .1 .0) (a .pre .1 .1 .1 .0)),
-      ),
+      next w,
     )
 
-mul-place : tie.Need-mul-place Inv-loop μ-loop
-mul-place c = search needs
-
-element-copy-out-place : tie.Need-element-copy-out-place Inv-loop μ-loop
-element-copy-out-place c = omega (arith, station (c .before .before .before), begin (c .before .before .before .before .before) .pre .0 .chain .few)
-
-mul-place-2 : tie.Need-mul-place-2 Inv-loop μ-loop
-mul-place-2 c = search needs
-
-array-read-place : tie.Need-array-read-place Inv-loop μ-loop
-array-read-place c = omega (arith, station (c .before .before .before .before), begin (c .before .before .before .before .before .before) .pre .0 .chain .few)
-
-add-place : tie.Need-add-place Inv-loop μ-loop
-add-place c = omega (arith, placed (c .before .before .before .before))
-
-cast-place : tie.Need-cast-place Inv-loop μ-loop
-cast-place c = omega (arith, placed (c .before .before .before .before))
-
-mul-table : tie.Need-mul-table Inv-loop μ-loop
-mul-table c = omega (arith, placed (c .before .before .before .before))
-
-array-write-table : tie.Need-array-write-table Inv-loop μ-loop
-array-write-table c = omega (arith, placed (c .before .before .before .before))
+add-fired : tie.Need-add-fired Inv-loop μ-loop
+add-fired c =
+    let w = c .before .before in
+    omega (arith, next w .left, copies-fit (begin (w .before .before) .pre .0) (w .wide .result) (next w .here))
 
 mul-fired : tie.Need-mul-fired Inv-loop μ-loop
 mul-fired c = search needs
 
-array-read-fired : tie.Need-array-read-fired Inv-loop μ-loop
-array-read-fired c = omega (arith, station (c .before .before .before .before), begin (c .before .before .before .before .before .before) .pre .0 .chain .few)
-
-add-fired : tie.Need-add-fired Inv-loop μ-loop
-add-fired c = omega (arith, placed (c .before .before .before .before))
-
-mul-fired-2 : tie.Need-mul-fired-2 Inv-loop μ-loop
-mul-fired-2 c = search needs
-
 array-write-fired : tie.Need-array-write-fired Inv-loop μ-loop
-array-write-fired c = omega (arith, station (c .before .before .before .before), begin (c .before .before .before .before .before .before) .pre .0 .chain .few)
+array-write-fired c = within (c .before .before)
 
 add-k : tie.Need-add-k Inv-loop μ-loop
 add-k c = search needs
@@ -109,12 +77,11 @@ loop-less c = search needs
 
 loop-again : tie.Need-loop-again Inv-loop μ-loop
 loop-again c =
-    let w = c .before .before .before .before in
+    let w = c .before .before in
     let i = w .before .before in
     let a = begin i in (
       search needs,
-      rw (begins w, w .wide .ensures .0)
-          (one-more-found _ _ _ _ _ _ _ _ _ _ _ (a .pre .1 .1 .1 .1) (long i) (i .before .loop .k) (i .loop-test .taken) (a .pre .0) (i .before .loop .inv .1) (c .before .start-of .result) (rw (w .wide .ensures .0) at (c .before .start-of .ensures)) (a .pre .0 .chain .few)),
+      step-walked _ _ _ _ _ _ _ _ _ _ _ (a .pre .0) (a .pre .1 .1 .1 .1) (i .before .loop .k) (i .loop-test .taken) (i .before .loop .inv .1) _ (w .wide .ensures .0) (c .walk-copy .ensures),
     )
 
 returns : tie.Need-returns Inv-loop μ-loop
@@ -122,7 +89,7 @@ returns c =
     let l = c .before in
     let a = l .before in
     let all : l .loop .k ≡ a .args .total = omega arith in
-    all-found _ _ _ _ _ _ _ _ _ _ _ (a .pre .0) (a .pre .1 .1 .1 .1) (rw all at (l .loop .inv .1))
+    all-walked _ _ _ _ _ _ _ _ _ _ _ (a .pre .0) (a .pre .1 .1 .1 .1) (rw all at (l .loop .inv .1))
 
 pub time-table-spec : {M : Type 1} → statement M
 time-table-spec =
@@ -134,19 +101,11 @@ time-table-spec =
     mul-wide
     element-copy-out-wide
     wide-requires
-    start-of-requires
-    mul-place
-    element-copy-out-place
-    mul-place-2
-    array-read-place
-    add-place
-    cast-place
-    mul-table
-    array-write-table
-    mul-fired
-    array-read-fired
+    mul-copy
+    array-read-copy
+    walk-copy-requires
     add-fired
-    mul-fired-2
+    mul-fired
     array-write-fired
     add-k
     loop-less
