@@ -6,6 +6,18 @@ use Rattle.hand.proofs.TrialLaws.{must-fire}
 use Rattle.hand.proofs.trial.period_with.Statement.{statement}
 use Rattle.hand.proofs.trial.period_with.Tie as tie
 
+abbrev begin : tie.After-bases → tie.Start
+begin b = b .before .before .before .before .before .before .before .before .before .before
+
+abbrev based : tie.After-fire-list → tie.After-bases
+based f = f .before .before .before .before .before .before .before .before .before .before
+
+abbrev fired : tie.After-threads → tie.After-fire-list
+fired t = t .before .before .before
+
+abbrev threaded : tie.After-list3 → tie.After-threads
+threaded l = l .before .before .before .before .before .before .before .before .before .before .before .before .before
+
 bases-requires : tie.Need-bases-requires
 bases-requires c κs = search needs
 
@@ -14,27 +26,27 @@ slice-aggregate-fire-list c = search needs
 
 fire-list-requires : tie.Need-fire-list-requires
 fire-list-requires c κs =
-    let b = c .before .before .before .before .before .before .before .before .before in
-    let p = b .before .before .before .before .before .before .before .before .before .before .pre in
+    let p = begin (c .before .before .before .before .before .before .before .before .before) .pre in
     let k = ready-counted (p .ready) in
     (p .ready .chain, (p .ready .threads, (p .small, (round-wanted k, k .few))))
 
+threads-requires : tie.Need-threads-requires
+threads-requires c κs = let k = begin (based (c .before .before)) .pre .ready .chain in (k .few, (k .few-queues, k .leaves))
+
 time-table-requires : tie.Need-time-table-requires
 time-table-requires c κs =
-    let f = c .before .before .before .before .before .before .before .before .before .before .before .before in
-    let b = f .before .before .before .before .before .before .before .before .before .before in
-    let a = b .before .before .before .before .before .before .before .before .before .before in
+    let t = threaded c in
+    let f = fired t in
+    let a = begin (based f) in
     let p = a .pre in
     let k = ready-counted (p .ready) in
-    (k, (p .ready .threads, (b .bases .ensures, (p .small, round-ordered k (f .fire-list .ensures) (a .args .checked .sheet .time) (must-fire p (f .fire-list .ensures)) (omega (arith, k .few))))))
+    (k, (t .threads .ensures, (based f .bases .ensures, (p .small, round-ordered k (f .fire-list .ensures) (a .args .checked .sheet .time) (must-fire p (f .fire-list .ensures)) (omega (arith, k .few))))))
 
 latest-end-requires : tie.Need-latest-end-requires
 latest-end-requires c κs =
     let t = c .before .before .before .before in
-    let f = t .before .before .before .before .before .before .before .before .before .before .before .before .before in
-    let b = f .before .before .before .before .before .before .before .before .before .before in
-    let a = b .before .before .before .before .before .before .before .before .before .before in
-    let k = ready-counted (a .pre .ready) in
+    let b = based (fired (threaded (t .before))) in
+    let k = ready-counted (begin b .pre .ready) in
     record {
       some = k .chain .some;
       few = k .chain .few;
@@ -47,9 +59,8 @@ latest-end-requires c κs =
 returns : tie.Need-returns
 returns c =
     let t = c .before .before .before .before .before in
-    let f = t .before .before .before .before .before .before .before .before .before .before .before .before .before in
-    let b = f .before .before .before .before .before .before .before .before .before .before in
-    let a = b .before .before .before .before .before .before .before .before .before .before in
+    let f = fired (threaded (t .before)) in
+    let a = begin (based f) in
     let p = a .pre in
     let k = ready-counted (p .ready) in
     let o = round-ordered k (f .fire-list .ensures) (a .args .checked .sheet .time) (must-fire p (f .fire-list .ensures)) (omega (arith, k .few)) in
@@ -62,6 +73,7 @@ period-with-spec =
     bases-requires
     slice-aggregate-fire-list
     fire-list-requires
+    threads-requires
     time-table-requires
     latest-end-requires
     returns)

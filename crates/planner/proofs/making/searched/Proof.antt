@@ -10,7 +10,7 @@ use Rattle.planner.proofs.making.searched.Statement.{statement}
 use Rattle.planner.proofs.making.searched.Tie as tie
 
 search-requires : tie.Need-search-requires
-search-requires c κs = let p = c .before .before .before .before .before .before .before .before .before .before .before .before .before .before .before .before .before .before .before .before .before .before .before .pre in (ready-counted p, (p .threads, (ready-given p, ready-ordered p)))
+search-requires c κs = let p = c .before .before .before .before .before .before .before .before .before .before .before .before .before .before .before .before .before .before .before .pre in (ready-counted p, (ready-given p, ready-ordered p))
 
 refused-requires : tie.Need-refused-requires
 refused-requires c κs = search needs
@@ -18,13 +18,13 @@ refused-requires c κs = search needs
 returns : tie.Need-returns
 returns c =
     let s = c .before .before .before in
-    answer-refused 9 0 (λ e. omega arith) (none-serve (s .before .before .before .before .before .before .before .before .before .before .before .before .before .before .before .before .before .before .before .before .before .before .before .before .pre) (s .search .ensures .none (not-true _ (c .before .if1 .taken)))) (c .refused .ensures)
+    answer-refused 9 0 (λ e. omega arith) (none-serve (s .before .before .before .before .before .before .before .before .before .before .before .before .before .before .before .before .before .before .before .before .pre) (s .search .ensures .none (not-true _ (c .before .if1 .taken)))) (c .refused .ensures)
 
 begun-requires : tie.Need-begun-requires
 begun-requires c κs =
     let e = c .before .before .before in
     let s = e .before .before in
-    record { ready = s .before .before .before .before .before .before .before .before .before .before .before .before .before .before .before .before .before .before .before .before .before .before .before .before .pre; retimes = s .search .ensures .found (not-false _ (e .if1 .left)) }
+    record { ready = s .before .before .before .before .before .before .before .before .before .before .before .before .before .before .before .before .before .before .before .before .pre; retimes = s .search .ensures .found (not-false _ (e .if1 .left)) }
 
 same-length : tie.Need-same-length
 same-length c = search needs
@@ -40,7 +40,7 @@ returns-2 c =
     let l = c .before .before .before .before .before .before in
     let e = l .before .before .before .before in
     let s = e .before .before in
-    passes (planKind _ _ _) (serve-passed (record { ready = s .before .before .before .before .before .before .before .before .before .before .before .before .before .before .before .before .before .before .before .before .before .before .before .before .pre; retimes = s .search .ensures .found (not-false _ (e .if1 .left)) })) (l .begun .ensures)
+    passes (planKind _ _ _) (serve-passed (record { ready = s .before .before .before .before .before .before .before .before .before .before .before .before .before .before .before .before .before .before .before .before .pre; retimes = s .search .ensures .found (not-false _ (e .if1 .left)) })) (l .begun .ensures)
 
 pub searched-spec : {M : Type 1} → statement M
 searched-spec =
