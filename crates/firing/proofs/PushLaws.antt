@@ -1,5 +1,5 @@
 -- The laws of a finish that is pushed along the queues out of a station.
-use Prim.Native.Nat.{ℕ, suc, _+_, _*_, _/_, _≤_, _<_, max}
+use Prim.Native.Nat.{ℕ, suc, _+_, _*_, _/_, _≤_, _<_}
 use mathlib.Core.Path.{_≡_, refl, sym, _∙_}
 use mathlib.Core.List.{List}
 use mathlib.Core.Logic.{_⊎_, inl, inr, ⊎-elim}
@@ -9,6 +9,7 @@ use native.Mathlib.Decide.{ℕ-discrete}
 use lib.ListN.{length, set, length-set}
 use lib.Seq.{getD-set-same, getD-set-other}
 use Rattle.lists.specs.Front.{at}
+use Rattle.lists.proofs.StoreLaws.{after-store}
 use Rattle.lists.proofs.Order.{order, lt-or-ge}
 use Rattle.dataflow.specs.Counts.{sum}
 use Rattle.dataflow.proofs.SumLaws.{sum-before}
@@ -48,68 +49,60 @@ module _ (m : ℕ) (source sink produced consumed delay q : List ℕ) (v copy fi
     between : (k : ℕ) → e < k → k < r → at source k ≡ v → ⊥
     between k gt l from = f .passed k gt l (from ∙ sym (b .goes h))
 
-    -- a queue whose first token is taken in a later round
-    push-pass : at q (at sink e) * at consumed e ≤ token e → PushedBelow r table
-    push-pass beyond = record {
+    -- a queue that doesn't hand the finish on, or hands it to a copy that has one as late
+    push-pass : (Hands source sink produced consumed delay q v copy finish e → finish ≤ at table (taker e)) → PushedBelow r table
+    push-pass as-late = record {
       within = f .within;
       goes = λ l. f .goes l ∙ b .goes h;
       pushes = record {
         long = b .pushes .long;
         rises = b .pushes .rises;
-        reached = λ k l z. order k e (λ lt. b .pushes .reached k lt z) (λ eq. absurd (omega (arith, rw eq at (z .inside)))) (λ gt. absurd (between k gt l (z .from)));
+        reached = λ k l z. order k e (λ lt. b .pushes .reached k lt z) (λ eq. rw eq (as-late (rw eq at z))) (λ gt. absurd (between k gt l (z .from)));
         is = λ k. given-still k _ (b .pushes .is k);
       };
     }
 
-    -- a queue that hands the finish on
-    push-more : token e < at q (at sink e) * at consumed e → taker e < length table → (y : ℕ) → y ≡ max (at table (taker e)) finish → PushedBelow r (set table (taker e) y)
-    push-more inside room y is = record {
+    -- a queue that hands it on
+    push-more : token e < at q (at sink e) * at consumed e → taker e < length table → at table (taker e) < finish → PushedBelow r (set table (taker e) finish)
+    push-more inside room low = record {
       within = f .within;
       goes = λ l. f .goes l ∙ b .goes h;
       pushes = record {
         long = simp length-set (b .pushes .long);
         rises = λ k. omega (arith, b .pushes .rises k, up k (ℕ-discrete k (taker e)));
         reached = reached;
-        is = λ k. given k (ℕ-discrete k (taker e));
+        is = after-store table (taker e) finish room (λ k x. (x ≡ at before k) ⊎ GivenBelow r k x)
+            (inr (record { queue = e; below = f .ahead; hands = record { from = b .goes h; inside = inside }; to = refl; is = refl })) (λ k n. given-still k _ (b .pushes .is k));
       };
     }
       where
-        here : at (set table (taker e) y) (taker e) ≡ y
-        here = getD-set-same table (taker e) y 0 room
+        here : at (set table (taker e) finish) (taker e) ≡ finish
+        here = getD-set-same table (taker e) finish 0 room
 
-        other : (k : ℕ) → (k ≡ taker e → ⊥) → at (set table (taker e) y) k ≡ at table k
-        other k n = getD-set-other table (taker e) k y 0 n
-
-        up : (k : ℕ) → Dec (k ≡ taker e) → at table k ≤ at (set table (taker e) y) k
+        up : (k : ℕ) → Dec (k ≡ taker e) → at table k ≤ at (set table (taker e) finish) k
         up k (yes x) = rw (x, here) (omega arith)
-        up k (no x) = rw (other k x) (omega arith)
+        up k (no x) = rw (getD-set-other table (taker e) k finish 0 x) (omega arith)
 
-        reached : (k : ℕ) → k < r → Hands source sink produced consumed delay q v copy finish k → finish ≤ at (set table (taker e) y) (taker k)
+        reached : (k : ℕ) → k < r → Hands source sink produced consumed delay q v copy finish k → finish ≤ at (set table (taker e) finish) (taker k)
         reached k l z =
             order k e
             (λ lt. omega (arith, b .pushes .reached k lt z, up (taker k) (ℕ-discrete (taker k) (taker e))))
             (λ eq. rw (eq, here) (omega arith))
             (λ gt. absurd (between k gt l (z .from)))
 
-        given : (k : ℕ) → Dec (k ≡ taker e) → (at (set table (taker e) y) k ≡ at before k) ⊎ GivenBelow r k (at (set table (taker e) y) k)
-        given k (no x) = rw (other k x) (given-still k _ (b .pushes .is k))
-        given k (yes x) = rw (x, here) (⊎-elim low high (lt-or-ge finish (at table (taker e))))
-          where
-            low : finish < at table (taker e) → (y ≡ at before (taker e)) ⊎ GivenBelow r (taker e) y
-            low l = let same : y ≡ at table (taker e) = omega arith in rw same (given-still (taker e) _ (b .pushes .is (taker e)))
-
-            high : at table (taker e) ≤ finish → (y ≡ at before (taker e)) ⊎ GivenBelow r (taker e) y
-            high l = inr (record { queue = e; below = f .ahead; hands = record { from = b .goes h; inside = inside }; to = refl; is = omega arith })
-
     -- either, in the words of the code
     pub push-given : {table′ : List ℕ} (token′ rate from count : ℕ) → token′ ≡ token e → rate ≡ at consumed e → from ≡ sum (at sink e) (at q) → count ≡ at q (at sink e)
         → 1 ≤ at consumed e → from + count ≤ length table → Gives token′ rate from count finish table table′ → PushedBelow r table′
-    push-given token′ rate from count et er ef ec some fits g =
-        let g′ = rw (et, er, ef, ec) at g in
-        ⊎-elim
-        (λ l. let x = div-lt-iff-lt-mul some .1 l in rw (g′ .given l) (push-more l (omega arith) _ refl))
-        (λ l. rw (g′ .none l) (push-pass l))
-        (lt-or-ge (token e) (at q (at sink e) * at consumed e))
+    push-given {table′} token′ rate from count et er ef ec some fits g =
+        ⊎-elim inside (λ l. rw (g′ .beyond l) (push-pass (λ z. absurd (omega (arith, z .inside))))) (lt-or-ge (token e) (at q (at sink e) * at consumed e))
+      where
+        g′ : Gives (token e) (at consumed e) (sum (at sink e) (at q)) (at q (at sink e)) finish table table′
+        g′ = rw (et, er, ef, ec) at g
+
+        inside : token e < at q (at sink e) * at consumed e → PushedBelow r table′
+        inside l =
+            let x = div-lt-iff-lt-mul some .1 l in
+            ⊎-elim (λ a. rw (g′ .given l a) (push-more l (omega arith) a)) (λ a. rw (g′ .as-late a) (push-pass (λ z. a))) (lt-or-ge (at table (taker e)) finish)
 
   pub push-all : {e : ℕ} {table : List ℕ} → PushedBelow e table → m ≤ e → Pushes source sink produced consumed delay q v copy finish m before table
   push-all {e} b h = let same : e ≡ m = omega (arith, b .within) in rw same at (b .pushes)

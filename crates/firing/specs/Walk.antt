@@ -1,5 +1,5 @@
 -- The forward walk over the copies of a round. Copies are counted from 0 here, as their entries in the time table are.
-use Prim.Native.Nat.{ℕ, _+_, _-_, _*_, _/_, _≤_, _<_, _^_, max}
+use Prim.Native.Nat.{ℕ, _+_, _-_, _*_, _/_, _≤_, _<_, _^_}
 use mathlib.Core.Path.{_≡_}
 use mathlib.Core.List.{List}
 use mathlib.Core.Logic.{_⊎_}
@@ -14,11 +14,12 @@ pub record Follows (copy entry : ℕ) (table : List ℕ) : Type 0 where
   pub second : 1 ≤ copy
   pub low : at table entry ≤ at table (entry - 1)
 
--- The finish goes to the copy that takes the token at this place of its queue, where that is one of the `count` copies of this round, whose entries stand from `from` on: its entry becomes
--- the larger of the two.
+-- The finish goes to the copy that takes the token at this place of its queue, where that is one of the `count` copies of this round, whose entries stand from `from` on, and the entry has
+-- nothing as late.
 pub record Gives (token consumed from count finish : ℕ) (before after : List ℕ) : Type 0 where
-  pub given : token < count * consumed → after ≡ set before (from + token / consumed) (max (at before (from + token / consumed)) finish)
-  pub none : count * consumed ≤ token → after ≡ before
+  pub given : token < count * consumed → at before (from + token / consumed) < finish → after ≡ set before (from + token / consumed) finish
+  pub beyond : count * consumed ≤ token → after ≡ before
+  pub as-late : finish ≤ at before (from + token / consumed) → after ≡ before
 
 module _ (source sink produced consumed delay q : List ℕ) (v copy finish : ℕ) where
   -- the place on queue e of the first token that the copy puts there

@@ -5,7 +5,6 @@ ghost use lib.ListN.{length};
 ghost use Rattle.lists.specs.Test.{Tells};
 ghost use Rattle.chain.specs.Chain.{CountedChain};
 ghost use Rattle.firing.specs.Walk.{Follows, Gives, Pushes, Walkable, Walks};
-use chain::larger;
 use chain::wide;
 use chain::wide32;
 
@@ -36,7 +35,9 @@ fn give(token: u32, consumed: u32, from: u32, count: u32, finish: u32, table: &m
 {
     if token < count * consumed {
         let entry = (from + token / consumed) as usize;
-        table[entry] = larger(table[entry], finish);
+        if table[entry] < finish {
+            table[entry] = finish;
+        }
     }
 }
 

@@ -1,8 +1,7 @@
-use Prim.Native.Nat.{ℕ, _+_, _*_, _/_, _≤_, _<_}
-use mathlib.Core.Path.{refl, ap}
+use Prim.Native.Nat.{_/_, _≤_, _<_}
+use mathlib.Core.Path.{refl}
 use native.Mathlib.Nat.{mul-le-mul, div-lt-iff-lt-mul}
 use native.Mathlib.Omega.{arith}
-use lib.ListN.{set}
 use borrow.Author.Needs.{needs}
 use Rattle.firing.proofs.walk.give.Statement.{statement}
 use Rattle.firing.proofs.walk.give.Tie as tie
@@ -23,28 +22,26 @@ add-entry c = omega (arith, taker c, c .before .pre .1 .0)
 cast-entry : tie.Need-cast-entry
 cast-entry c = omega (arith, taker c, c .before .pre .1 .0)
 
-mul-larger : tie.Need-mul-larger
-mul-larger c = omega (arith, taker c, c .before .pre .1 .0)
+mul-if2 : tie.Need-mul-if2
+mul-if2 c = omega (arith, taker c, c .before .pre .1 .0)
 
-element-copy-out-larger : tie.Need-element-copy-out-larger
-element-copy-out-larger c = omega (arith, taker c, c .before .pre .1 .0)
-
-larger-requires : tie.Need-larger-requires
-larger-requires c κs = search needs
+element-copy-out-if2 : tie.Need-element-copy-out-if2
+element-copy-out-if2 c = omega (arith, taker c, c .before .pre .1 .0)
 
 mul-table : tie.Need-mul-table
-mul-table c = omega (arith, taker (c .before .before), c .before .before .before .pre .1 .0)
+mul-table c = let t = c .before .before in omega (arith, taker t, t .before .pre .1 .0)
 
 element-write-table : tie.Need-element-write-table
-element-write-table c = omega (arith, taker (c .before .before), c .before .before .before .pre .1 .0)
+element-write-table c = let t = c .before .before in omega (arith, taker t, t .before .pre .1 .0)
 
 returns : tie.Need-returns
-returns c =
-    let a = c .before .before .before .args in
-    record { given = λ l. ap (λ (x : ℕ). set (a .table .now) (a .from + a .token / a .consumed) x) (c .larger .ensures); none = λ l. absurd (omega (arith, c .before .before .if1 .taken)) }
+returns c = record { given = λ l a. refl; beyond = λ l. absurd (omega (arith, c .before .before .if1 .taken)); as-late = λ l. absurd (omega (arith, c .if2 .taken)) }
 
 returns-2 : tie.Need-returns-2
-returns-2 c = record { given = λ l. absurd (omega (arith, c .if1 .left)); none = λ l. refl }
+returns-2 c = record { given = λ l a. absurd (omega (arith, c .if2 .left)); beyond = λ l. refl; as-late = λ l. refl }
+
+returns-3 : tie.Need-returns-3
+returns-3 c = record { given = λ l a. absurd (omega (arith, c .if1 .left)); beyond = λ l. refl; as-late = λ l. refl }
 
 pub give-spec : {M : Type 1} → statement M
 give-spec =
@@ -54,10 +51,10 @@ give-spec =
     div-entry
     add-entry
     cast-entry
-    mul-larger
-    element-copy-out-larger
-    larger-requires
+    mul-if2
+    element-copy-out-if2
     mul-table
     element-write-table
     returns
-    returns-2)
+    returns-2
+    returns-3)
