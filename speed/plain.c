@@ -309,34 +309,36 @@ static bool fire_round(const struct sheet *sheet, const unsigned *delay, uint16_
     return fire_list(sheet, delay, count, sheet->total, list);
 }
 
-/* The latest finish of the copies that make the last tokens of the next firing of v. */
-static unsigned start_of(const struct sheet *sheet, const unsigned *delay, const uint32_t *times,
-                         unsigned v, unsigned fired)
+/* Pushes the finish of a copy of v into the copies of this round that take its first tokens. */
+static void push(const struct sheet *sheet, const unsigned *delay, unsigned v, unsigned copy,
+                 unsigned finish, uint32_t *times)
 {
-    unsigned latest = 0;
-    for (unsigned e = sheet->station[v].into; e < sheet->m; e = sheet->queue[e].next_in) {
+    for (unsigned e = sheet->station[v].out; e < sheet->m; e = sheet->queue[e].next_out) {
         const struct queue *queue = &sheet->queue[e];
-        unsigned needed = (fired + 1) * queue->consumed;
-        if (needed <= delay[e])
+        const struct station *sink = &sheet->station[queue->sink];
+        unsigned token = delay[e] + copy * queue->produced;
+        if (token >= sink->count * queue->consumed)
             continue;
-        const struct station *source = &sheet->station[queue->source];
-        unsigned maker = (needed - 1 - delay[e]) / queue->produced;
-        unsigned end = times[source->base + maker] + source->time;
-        if (latest < end)
-            latest = end;
+        uint32_t *entry = &times[sink->base + token / queue->consumed];
+        if (*entry < finish)
+            *entry = finish;
     }
-    return latest;
 }
 
-/* The start of every copy, from an order in which the round can be fired. */
+/* The start of every copy, from an order in which the round can be fired. A copy that starts with the
+ * one before it has nothing to push. */
 static void time_table(const struct sheet *sheet, const unsigned *delay, const uint16_t *order,
                        uint32_t *times)
 {
     unsigned fired[MOST_STATIONS] = {0};
+    memset(times, 0, sheet->total * sizeof *times);
     for (unsigned k = 0; k < sheet->total; k++) {
-        unsigned v = order[k];
-        times[sheet->station[v].base + fired[v]] = start_of(sheet, delay, times, v, fired[v]);
-        fired[v]++;
+        unsigned v = order[k], copy = fired[v]++;
+        uint32_t *entry = &times[sheet->station[v].base + copy];
+        if (copy > 0 && *entry <= entry[-1])
+            *entry = entry[-1];
+        else
+            push(sheet, delay, v, copy, *entry + sheet->station[v].time, times);
     }
 }
 

@@ -19,10 +19,10 @@ use Rattle.firing.specs.Walk.{Gives, firstToken, takerEntry, Hands, Give
 
 module _ (m : ℕ) (source sink produced consumed delay q : List ℕ) (v copy finish : ℕ) (before : List ℕ) where
   abbrev token : ℕ → ℕ
-  token e = firstToken source sink produced consumed delay q v copy finish e
+  token e = firstToken produced delay copy e
 
   abbrev taker : ℕ → ℕ
-  taker e = takerEntry source sink produced consumed delay q v copy finish e
+  taker e = takerEntry sink produced consumed delay q copy e
 
   abbrev GivenBelow : (bound k x : ℕ) → Type 0
   GivenBelow bound k x = Given source sink produced consumed delay q v copy finish bound k x

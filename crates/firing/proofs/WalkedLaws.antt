@@ -1,5 +1,5 @@
 -- The laws of a time table in the making by the forward walk.
-use Prim.Native.Nat.{ℕ, suc, _+_, _-_, _*_, _/_, _≤_, _<_, _^_, max}
+use Prim.Native.Nat.{ℕ, suc, _+_, _-_, _*_, _/_, _≤_, _<_, _^_}
 use mathlib.Core.Path.{_≡_, refl, sym, ap, _∙_}
 use mathlib.Core.List.{List, _∷_}
 use mathlib.Core.Logic.{_⊎_, inl, inr, ⊎-elim}
@@ -32,7 +32,7 @@ use Rattle.chain.specs.Chain.{CountedChain, netOf, delaysOf}
 use Rattle.chain.proofs.ChainLaws.{sound}
 use Rattle.firing.specs.Thread.{Threads}
 use Rattle.firing.specs.Times.{Bases, Ordered, Tabled}
-use Rattle.firing.specs.Walk.{Follows, Given, Pushes, Walkable, Walks}
+use Rattle.firing.specs.Walk.{Follows, firstToken, takerEntry, Given, Pushes, Walkable, Walks}
 use Rattle.firing.proofs.PushLaws.{copies-fit}
 
 -- two copies, counted from 0, with one entry are one
@@ -170,8 +170,11 @@ module _ (n m : ℕ) (source sink produced consumed delay time q : List ℕ) (to
 
         -- the copy pushes its finish on
         module _ {after : List ℕ} (p : Pushes source sink produced consumed delay q v copy (at table own + at time v) m table after) where
-          -- the first taker, by the division
-          taker : (e : Below m) → FirstTaker (D e) (at produced (e .0)) (at consumed (e .0)) (suc copy) (suc ((D e + copy * at produced (e .0)) / at consumed (e .0)))
+          -- along a queue the first token goes to this copy, counted from 0
+          abbrev to : ℕ → ℕ
+          to e = firstToken produced delay copy e / at consumed e
+
+          taker : (e : Below m) → FirstTaker (D e) (at produced (e .0)) (at consumed (e .0)) (suc copy) (suc (to (e .0)))
           taker e = taker-is (D e) (at produced (e .0)) (at consumed (e .0)) copy (c .chain .takes (e .0) (e .1))
 
           finished : at table own + at time v ≡ entry (at q) table v (suc copy) + at time v + 0
@@ -181,21 +184,21 @@ module _ (n m : ℕ) (source sink produced consumed delay time q : List ℕ) (to
               → entry (at q) table v (suc copy) + at time v + 0 ≤ entry (at q) after (at sink (e .0)) g
           reached e g from t i =
               let same = taker-once (D e) (at produced (e .0)) (at consumed (e .0)) (suc copy) g _ t (taker e) in
-              let low : (D e + copy * at produced (e .0)) / at consumed (e .0) < at q (at sink (e .0)) = omega (arith, same, i .high) in
+              let low : to (e .0) < at q (at sink (e .0)) = omega (arith, same, i .high) in
               let a = p .reached (e .0) (e .1) (record { from = from; inside = div-lt-iff-lt-mul (c .chain .takes (e .0) (e .1)) .0 low }) in
-              let x : sum (at sink (e .0)) (at q) + (g - 1) ≡ sum (at sink (e .0)) (at q) + (D e + copy * at produced (e .0)) / at consumed (e .0) = omega (arith, same) in
+              let x : sum (at sink (e .0)) (at q) + (g - 1) ≡ takerEntry sink produced consumed delay q copy (e .0) = omega (arith, same) in
               omega (arith, a, finished, ap (at after) x)
 
-          -- the copy with the entry that was given the finish is a first taker
-          inside-count : {j x : ℕ} (g : Given source sink produced consumed delay q v copy (at table own + at time v) m j x) → (D (g .queue, g .below) + copy * at produced (g .queue)) / at consumed (g .queue) < at q (at sink (g .queue))
-          inside-count g = div-lt-iff-lt-mul (c .chain .takes (g .queue) (g .below)) .1 (g .hands .inside)
+          -- the copy with the entry that was given the finish is one of the round's, and a first taker
+          inside : {j x : ℕ} (g : Given source sink produced consumed delay q v copy (at table own + at time v) m j x) → to (g .queue) < at q (at sink (g .queue))
+          inside g = div-lt-iff-lt-mul (c .chain .takes (g .queue) (g .below)) .1 (g .hands .inside)
 
           handed : (w j : ℕ) → Copy G w j → Given source sink produced consumed delay q v copy (at table own + at time v) m (sum w (at q) + (j - 1)) (entry (at q) after w j)
               → HandedOn G D v (suc copy) (entry (at q) table) w j (entry (at q) after w j)
           handed w j i g =
               let e : Below m = (g .queue, g .below) in
-              let y = one-copy (at q) w (at sink (g .queue)) (j - 1) _ (omega (arith, i .low, i .high)) (inside-count g) (g .to) in
-              let same : suc ((D e + copy * at produced (g .queue)) / at consumed (g .queue)) ≡ j = omega (arith, y .1, i .low) in
+              let y = one-copy (at q) w (at sink (g .queue)) (j - 1) (to (g .queue)) (omega (arith, i .low, i .high)) (inside g) (g .to) in
+              let same : suc (to (g .queue)) ≡ j = omega (arith, y .1, i .low) in
               record { queue = e; from = g .hands .from; to = sym (y .0); taker = rw same at (taker e); is = g .is ∙ finished }
 
           pushed : PushesOn G D v (suc copy) (entry (at q) table) (entry (at q) after)
@@ -214,7 +217,7 @@ module _ (n m : ℕ) (source sink produced consumed delay time q : List ℕ) (to
             bound = λ j. ⊎-elim (λ x. omega (arith, x, z .bound j)) (λ x. omega (arith, x .is, z .bound own)) (p .is j);
             rest = λ j l. ⊎-elim
                 (λ x. x ∙ z .rest j l)
-                (λ x. absurd (omega (arith, x .to, inside-count x, sum-before (at q) (at sink (x .queue)) n (c .chain .enters (x .queue) (x .below)), c .adds)))
+                (λ x. absurd (omega (arith, x .to, inside x, sum-before (at q) (at sink (x .queue)) n (c .chain .enters (x .queue) (x .below)), c .adds)))
                 (p .is j);
           }
             where

@@ -21,33 +21,33 @@ pub record Gives (token consumed from count finish : ℕ) (before after : List �
   pub beyond : count * consumed ≤ token → after ≡ before
   pub as-late : finish ≤ at before (from + token / consumed) → after ≡ before
 
+-- the place on queue e of the first token that the copy puts there
+abbrev pub firstToken : (produced delay : List ℕ) (copy e : ℕ) → ℕ
+firstToken produced delay copy e = at delay e + copy * at produced e
+
+-- the entry of the copy that takes it
+abbrev pub takerEntry : (sink produced consumed delay q : List ℕ) (copy e : ℕ) → ℕ
+takerEntry sink produced consumed delay q copy e = sum (at sink e) (at q) + firstToken produced delay copy e / at consumed e
+
 module _ (source sink produced consumed delay q : List ℕ) (v copy finish : ℕ) where
-  -- the place on queue e of the first token that the copy puts there
-  abbrev pub firstToken : ℕ → ℕ
-  firstToken e = at delay e + copy * at produced e
-
-  -- the entry of the copy that takes it
-  abbrev pub takerEntry : ℕ → ℕ
-  takerEntry e = sum (at sink e) (at q) + firstToken e / at consumed e
-
   -- queue e leaves v, and the first token is taken in this round
   pub record Hands (e : ℕ) : Type 0 where
     pub from : at source e ≡ v
-    pub inside : firstToken e < at q (at sink e) * at consumed e
+    pub inside : firstToken produced delay copy e < at q (at sink e) * at consumed e
 
   -- x, in this entry, is the finish that a queue below `bound` handed on
   pub record Given (bound entry x : ℕ) : Type 0 where
     pub queue : ℕ
     pub below : queue < bound
     pub hands : Hands queue
-    pub to : entry ≡ takerEntry queue
+    pub to : entry ≡ takerEntry sink produced consumed delay q copy queue
     pub is : x ≡ finish
 
   -- The finish is pushed along every queue below `bound` that hands it on: the taker's entry becomes the larger of what it was and the finish, and every other stays.
   pub record Pushes (bound : ℕ) (before after : List ℕ) : Type 0 where
     pub long : length after ≡ length before
     pub rises : (k : ℕ) → at before k ≤ at after k
-    pub reached : (e : ℕ) → e < bound → Hands e → finish ≤ at after (takerEntry e)
+    pub reached : (e : ℕ) → e < bound → Hands e → finish ≤ at after (takerEntry sink produced consumed delay q copy e)
     pub is : (k : ℕ) → (at after k ≡ at before k) ⊎ Given bound k (at after k)
 
 -- a table in the making that has an entry for the copy, with starts that are small enough; threads through the queues out of each station
