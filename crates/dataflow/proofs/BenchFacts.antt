@@ -17,6 +17,7 @@ use Rattle.dataflow.specs.Stuck.{Stuck}
 use Rattle.dataflow.specs.Retiming.{newDelay, retimed, whole, byHand}
 use Rattle.dataflow.specs.Lists.{StartList, RoundList}
 use Rattle.dataflow.specs.Runs.{initial, made, initially, after, TakenBy}
+use Rattle.dataflow.specs.FirstToken.{TakesFirst, Open, FirstPath, begins, enters}
 use Rattle.dataflow.specs.Loops.{Way, here, along, loopSum}
 use Rattle.dataflow.specs.Dispatch.{part, firings}
 use Rattle.dataflow.specs.Move.{movedDelay}
@@ -25,7 +26,7 @@ use Rattle.dataflow.specs.Promise.{MovePromise}
 use Rattle.dataflow.specs.Refusals.{InHandRange, HandFits, MoveFits, TokenFits, negativeRow}
 use Rattle.dataflow.specs.Sheet.{net, delays, Below}
 use Rattle.dataflow.specs.Samples.{K}
-use Rattle.dataflow.proofs.Below.{upto}
+use Rattle.dataflow.proofs.Below.{upto, each-below}
 use Rattle.dataflow.proofs.Decide.{by-yes, list-dec}
 use Rattle.dataflow.proofs.SheetLaws.{sheet-sound, sheet-dec}
 
@@ -63,6 +64,24 @@ last-token-of-K d T = record {
   rounds = refl;
   token = record { place = 1; put = record { token = 1; first = lit≤ tt; last = lit≤ tt; place = refl }; taken = record { from = lit≤ tt; upto = lit< tt } };
 }
+
+-- on queue 1 firing 5 of station 0 takes the first token of firing 1 of station 1; firing 6 takes its last, and not its first
+first-taker-of-K : TakesFirst (dK 4 3 queue1) (GK 4 3 .produced queue1) (GK 4 3 .consumed queue1) 1 5
+first-taker-of-K = record { from = lit≤ tt; upto = lit< tt }
+
+no-first-taker-of-K : ¬ TakesFirst (dK 4 3 queue1) (GK 4 3 .produced queue1) (GK 4 3 .consumed queue1) 1 6
+no-first-taker-of-K h = omega (arith, h .from)
+
+-- as the sheet is given station 0 is open and station 1 isn't; by the first token of copy 1 of station 0 a path enters copy 1 of station 1, with the period 5 as its sum
+open-of-K : (T : ℕ) → Open (GK 4 T) (dK 4 T) 0
+open-of-K T = each-below 2 _ (λ to. absurd (omega (arith, to)), (λ to. lit≤ tt, tt))
+
+shut-of-K : (T : ℕ) → ¬ Open (GK 4 T) (dK 4 T) 1
+shut-of-K T o = omega (arith, o queue0 refl)
+
+first-path-of-K : (T : ℕ) → FirstPath (GK 4 T) (dK 4 T) 0 1 1 1 5
+first-path-of-K T =
+    enters {u = 0} {i = 1} {h = 1} {j = 1} {S = 3} queue0 (begins {v = 0} {i = 1} (record { low = lit≤ tt; high = lit≤ tt })) (record { from = lit≤ tt; upto = lit< tt }) (lit≤ tt)
 
 -- with q = 2: copy 1, r = -1 moves to copy 2, shift -1
 move-of-K : MovePromise (GK 4 3) 0 1 (negsuc 0) 2 (negsuc 0)
