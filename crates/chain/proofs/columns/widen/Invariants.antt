@@ -1,0 +1,15 @@
+use Prim.Native.Nat.{◌≤◌, ◌-◌}
+use mathlib.Core.Path.{◌≡◌}
+use native.Mathlib.Omega.{arith}
+use lib.ListN.{length, length-set}
+use borrow.Author.Rules.{rules}
+use Rattle.lists.proofs.FrontLaws.{front_none, front_more}
+use Rattle.lists.specs.Front.{at, front}
+use Rattle.chain.proofs.ColumnLaws.{front_all}
+use Rattle.chain.proofs.columns.widen.Given as goal
+
+abbrev pub invariant-loop-i : goal.invariant-loop-i
+invariant-loop-i l = (l.i ≤ length l.from) × ((length l.to ≡ length l.initial.to) × (l.to ≡ front l.i (at l.from) l.initial.to))
+
+abbrev pub decreases-loop-i : goal.decreases-loop-i
+decreases-loop-i l = l.i-end - l.i

@@ -1,0 +1,6 @@
+use Rattle.chain.proofs.CeilingLaws.{ceiling_is}
+use borrow.Author.Rules.{rules}
+use Rattle.chain.proofs.dividing.rounded_up.Goals as goal
+
+pub returns : goal.returns
+returns c = ceiling_is c.args.k c.args.rate c.requires.1.0
