@@ -10,10 +10,9 @@ use Rattle.dataflow.specs.Dispatch.{Part, of_start, of_round, round_place, chose
 use Rattle.dispatch.specs.Handed.{Lent, entry_at, lies_at, part_after, Handed}
 
 -- a list's entries from a place on, where they lie
-abbrev pub tail_of : (list : Lent) (place name : ℕ) → Lent
-tail_of list place name = record {
+abbrev pub tail_of : (list : Lent) (place : ℕ) → Lent
+tail_of list place = record {
   ref_ptr = entry_at list place;
-  ghost_name = name;
   now = take (length list.now - place) (drop place list.now);
 }
 
@@ -45,12 +44,12 @@ module _ (start round : Lent) (done : ℕ) where
   handed rest p e h k = record { holds = h ∙ ap (firings start.now round.now) (sym e); lies = k ∙ ap (lies_at start round) (sym e) }
 
   -- while fewer are done than the start list has
-  pub start_handed : (name : ℕ) → done < length start.now → Handed start round done (tail_of start done name)
-  start_handed name h = handed (tail_of start done name) (of_start done) (in_start h) (part_to_end start.now done) refl
+  pub start_handed : done < length start.now → Handed start round done (tail_of start done)
+  start_handed h = handed (tail_of start done) (of_start done) (in_start h) (part_to_end start.now done) refl
 
   -- after that
-  pub round_handed : (name : ℕ) → length start.now ≤ done → 1 ≤ length round.now → Handed start round done (tail_of round ((done - length start.now) % length round.now) name)
-  round_handed name h pos = handed (tail_of round place name) (of_round place) (in_round place h (place_in_round _ _ _ pos)) (part_to_end round.now place) refl
+  pub round_handed : length start.now ≤ done → 1 ≤ length round.now → Handed start round done (tail_of round ((done - length start.now) % length round.now))
+  round_handed h pos = handed (tail_of round place) (of_round place) (in_round place h (place_in_round _ _ _ pos)) (part_to_end round.now place) refl
     where
       place : ℕ
       place = (done - length start.now) % length round.now

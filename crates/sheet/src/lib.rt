@@ -8,7 +8,7 @@ pub use writer::write;
 
 // A sheet's numbers. Entries past n stations and m queues are 0.
 #[repr(C)]
-#[derive(Drop)]
+#[derive(Clone, Copy)]
 pub struct Sheet {
     pub version: u16,
     pub n: usize,
