@@ -1,0 +1,13 @@
+use Prim.Native.Nat.{◌-◌, ◌≤◌, ◌<◌}
+use mathlib.Core.Path.{◌≡◌}
+use native.Mathlib.Omega.{arith}
+use borrow.Author.Rules.{rules}
+use Rattle.firing.proofs.FireLaws.{SoFar, none_fired_lem, fired_few, kept_length, one_more, stalled, completed}
+use Rattle.firing.proofs.fire.fire_list.Given as goal
+
+abbrev pub invariant-loop-k : goal.invariant-loop-k
+invariant-loop-k l =
+    (l.k ≤ l.total) × SoFar l.n l.m l.source l.sink l.produced l.consumed l.delay l.wanted l.total l.initial.list l.list l.fired l.k
+
+abbrev pub decreases-loop-k : goal.decreases-loop-k
+decreases-loop-k l = l.total - l.k

@@ -1,0 +1,14 @@
+use Prim.Native.Nat.{◌+◌, ◌-◌, ◌≤◌}
+use mathlib.Core.Path.{◌≡◌}
+use native.Mathlib.Omega.{arith}
+use borrow.Author.Rules.{rules}
+use Rattle.lists.specs.Front.{at}
+use Rattle.dataflow.specs.Counts.{sum}
+use Rattle.firing.proofs.EndLaws.{place_of, EndSoFar, none_seen, end_more, all_seen}
+use Rattle.firing.proofs.late.latest_end.Given as goal
+
+abbrev pub invariant-loop-v : goal.invariant-loop-v
+invariant-loop-v l = (l.v ≤ l.n) × EndSoFar l.n l.q l.time l.table l.v l.latest
+
+abbrev pub decreases-loop-v : goal.decreases-loop-v
+decreases-loop-v l = l.n - l.v
