@@ -4,14 +4,7 @@ use mir.Facts.{to_z-neg}
 use mir.Syntax.{w32}
 use native.Mathlib.Omega.{arith}
 use borrow.Author.Rules.{rules}
-use Rattle.signed.proofs.parts.minus.Statement.{statement}
-use Rattle.signed.proofs.parts.minus.Tie as tie
+use Rattle.signed.proofs.parts.minus.Goals as goal
 
-cast-result : tie.Need-overflow-cast-result
-cast-result c = search rules
-
-returns : tie.Need-returns
+pub returns : goal.returns
 returns c = let n : 4294967295 - c.args.k ≡ 4294967296 - suc c.args.k = omega arith in rw n (to_z-neg w32 c.args.k c.requires)
-
-pub minus-spec : {M : Type 1} → statement M
-minus-spec = tie.close (tie.spec cast-result returns)
