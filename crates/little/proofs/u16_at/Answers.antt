@@ -1,0 +1,6 @@
+use native.Mathlib.Omega.{arith}
+use borrow.Author.Rules.{rules}
+use Rattle.little.proofs.u16_at.Goals as goal
+
+pub returns : goal.returns
+returns c = omega arith

@@ -1,0 +1,16 @@
+use Prim.Native.Nat.{◌-◌, ◌*◌, ◌≤◌}
+use mathlib.Core.Path.{◌≡◌, refl}
+use native.Mathlib.Nat.{mul-le-mul}
+use native.Mathlib.Omega.{arith}
+use lib.ListN.{length, length-set}
+use borrow.Author.Rules.{rules}
+use Rattle.lists.specs.Front.{at}
+use Rattle.lists.proofs.FilledLaws.{filled_none, filled_more}
+use Rattle.retimed.specs.Back.{StartFirings}
+use Rattle.retimed.proofs.back.start_firings.Given as goal
+
+abbrev pub invariant-loop-v : goal.invariant-loop-v
+invariant-loop-v l = (l.v ≤ l.n) × ((length l.firings ≡ 32) × StartFirings l.v l.q l.retiming l.back l.firings)
+
+abbrev pub decreases-loop-v : goal.decreases-loop-v
+decreases-loop-v l = l.n - l.v
