@@ -1,0 +1,12 @@
+use mathlib.Core.Path.{refl}
+use borrow.Author.Rules.{rules}
+use Rattle.lists.proofs.PutLaws.{wrote, wrote_more}
+use Rattle.little.proofs.LittleLaws.{length_two}
+use Rattle.sheet.proofs.writer.put_station.Goals as goal
+
+pub returns : goal.returns
+returns c =
+    (wrote_more _
+    (wrote c.put_u16.ensures (length_two _)) refl
+    c.put_u16-2.ensures (length_two _)
+    ).is
