@@ -1,0 +1,11 @@
+use Prim.Native.Nat.{◌-◌, ◌≤◌, ◌<◌}
+use native.Mathlib.Omega.{arith}
+use borrow.Author.Rules.{rules}
+use Rattle.rooms.proofs.StretchLaws.{Same, same_one, same_more}
+use Rattle.rooms.proofs.lift.stretch_end.Given as goal
+
+abbrev pub invariant-loop-end : goal.invariant-loop-end
+invariant-loop-end l = (l.from < l.end) × ((l.end ≤ l.count) × Same l.list l.from l.end)
+
+abbrev pub decreases-loop-end : goal.decreases-loop-end
+decreases-loop-end l = l.count - l.end
