@@ -4,7 +4,7 @@ mod judge;
 pub use judge::check;
 
 // A refusal's number and place, and every other number 0; or 0, 0, the sheet, its counts and their sum, its delays, the threads through its queues and its round list.
-#[derive(Drop)]
+#[derive(Clone, Copy)]
 pub struct Checked {
     pub number: u32,
     pub place: u32,

@@ -7,7 +7,7 @@ pub use rounds::search;
 
 // The plan's retiming, with the rounds of the search that raised something, the new delays, their period and their time table.
 // Where no whole numbers serve, serves is false and every number 0.
-#[derive(Drop)]
+#[derive(Clone, Copy)]
 pub struct Found {
     pub serves: bool,
     pub rounds: usize,
