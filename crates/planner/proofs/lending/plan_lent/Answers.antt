@@ -1,0 +1,6 @@
+use borrow.Author.Rules.{rules}
+use Rattle.planner.proofs.LentLaws.{plans_lent}
+use Rattle.planner.proofs.lending.plan_lent.Goals as goal
+
+pub returns : goal.returns
+returns c = plans_lent c.plan.ensures c.requires

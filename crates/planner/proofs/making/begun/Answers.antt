@@ -1,0 +1,23 @@
+use borrow.Author.Rules.{rules}
+use Rattle.planner.specs.Making.{Begun}
+use Rattle.planner.proofs.WorkLaws.{small, back_small, firing_small}
+use Rattle.planner.proofs.making.begun.Goals as goal
+
+pub back_of-back-requires : goal.back_of-back-requires
+back_of-back-requires c = small c.requires
+
+pub start_firings-firings-requires : goal.start_firings-firings-requires
+start_firings-firings-requires c = let p = c.requires in (small p, (c.back_of-back.ensures.covers, back_small p c.back_of-back.ensures))
+
+pub add-starts-requires : goal.add-starts-requires
+add-starts-requires c =
+    let p = c.requires in
+    (p.ready.chain.few, λ v h. firing_small p c.back_of-back.ensures c.start_firings-firings.ensures v)
+
+pub lent-requires : goal.lent-requires
+lent-requires c =
+    let begun : Begun c.args.checked c.args.found c.back_of-back.result c.start_firings-firings.result c.add-starts.result = record { retimed = c.requires; backs = c.back_of-back.ensures; fires = c.start_firings-firings.ensures; adds = c.add-starts.ensures } in
+    begun
+
+pub returns : goal.returns
+returns c = c.lent.ensures
