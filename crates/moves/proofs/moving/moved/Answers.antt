@@ -28,5 +28,5 @@ returns c =
     let q = c.args.q in
     let m : c.floor_mod.result ≡ floor_mod (pos c.args.copy +ℤ c.args.r -ℤ pos 1) q = c.floor_mod.ensures.0 ∙ ap (λ (x : ℤ). floor_mod x q) (to_z-of_z {w = w32} f ∙ n) in
     let s : c.floor_div.result ≡ floor_div (pos c.args.copy +ℤ c.args.r -ℤ pos 1) q = c.floor_div.ensures ∙ ap (λ (x : ℤ). floor_div x q) (to_z-of_z {w = w32} f ∙ n) in
-    let t : to_z w32 (of_z w32 c.floor_div.result) ≡ floor_div (pos c.args.copy +ℤ c.args.r -ℤ pos 1) q = to_z-of_z (rw s (floor_fits (pos c.args.copy +ℤ c.args.r -ℤ pos 1) q (rw n at f))) ∙ s in
+    let t : to_z w32 (of_z w32 c.floor_div.result) ≡ floor_div (pos c.args.copy +ℤ c.args.r -ℤ pos 1) q = to_z-of_z {w = w32} (rw s (floor_fits (pos c.args.copy +ℤ c.args.r -ℤ pos 1) q (rw n at f))) ∙ s in
     λ k. record { number = 0; place = 0; copy = m k + 1; shift = t k }
