@@ -1,4 +1,6 @@
 // The columns that the planner's routines are lent, the larger of two numbers, and a quotient that rounds up.
+#![tactic(auto)]
+
 mod columns;
 mod dividing;
 mod maximum;

@@ -1,4 +1,6 @@
 // Checks 1 to 8 with 16 of a sheet's bytes.
+#![tactic(auto)]
+
 mod judge;
 
 pub use judge::check;

@@ -1,4 +1,6 @@
 // Whether the stations are joined, and their smallest counts: refusal 6, and what 7 goes by.
+#![tactic(auto)]
+
 mod joining;
 mod raising;
 

@@ -1,1 +1,3 @@
+#![tactic(auto)]
+
 // Definitions and laws of the dataflow. No function.

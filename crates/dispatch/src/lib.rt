@@ -1,4 +1,6 @@
 // The dispatcher's part.
+#![tactic(auto)]
+
 ghost use Rattle.dispatch.specs.Handed.{Handed};
 
 // The rest of the start list or of the round list, as a part of the list that is lent.

@@ -1,4 +1,6 @@
 // The library for programs in C and in Rust. Each function is one of the library's, with its contract; include/tasselbrook.h declares them.
+#![tactic(auto)]
+
 mod named;
 mod told;
 

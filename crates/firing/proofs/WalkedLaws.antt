@@ -2,7 +2,7 @@
 use Prim.Native.Nat.{ℕ, suc, ◌+◌, ◌-◌, ◌*◌, ◌/◌, ◌≤◌, ◌<◌, ◌^◌}
 use mathlib.Core.Path.{◌≡◌, refl, sym, ap, ◌∙◌}
 use mathlib.Core.List.{List, ◌∷◌}
-use mathlib.Core.Logic.{◌⊎◌, inl, inr, ⊎_elim}
+use mathlib.Core.Logic.{inl, inr, ⊎_elim}
 use native.Mathlib.Nat.{mul-le-mul_right, div-lt_iff_lt-mul}
 use native.Mathlib.Omega.{arith}
 use native.Mathlib.Decide.{ℕ_discrete, dec_le}
@@ -33,7 +33,6 @@ use Rattle.chain.proofs.ChainLaws.{sound}
 use Rattle.firing.specs.Thread.{Threads}
 use Rattle.firing.specs.Times.{Bases, Ordered, Tabled}
 use Rattle.firing.specs.Walk.{Follows, first_token, taker_entry, Given, Pushes, Walkable, Walks}
-use Rattle.firing.proofs.PushLaws.{copies_fit}
 
 -- two copies, counted from 0, with one entry are one
 one_copy : (q : ℕ → ℕ) (v w i j : ℕ) → i < q v → j < q w → sum v q + i ≡ sum w q + j → (v ≡ w) × (i ≡ j)

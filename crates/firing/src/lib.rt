@@ -1,4 +1,6 @@
 // Firing lists, and the time table of its copies.
+#![tactic(auto)]
+
 mod fire;
 mod late;
 mod scan;

@@ -1,4 +1,6 @@
 // The check of a retiming that was written by hand.
+#![tactic(auto)]
+
 mod shifting;
 mod trial;
 

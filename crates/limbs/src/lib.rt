@@ -1,4 +1,6 @@
 // Numbers below 2^224 as four limbs of 56 bits, the lowest first: products of many rates, exactly.
+#![tactic(auto)]
+
 ghost use Rattle.std.specs.Prelude.{◌*◌, ◌≤◌, ◌<◌, ◌≡◌};
 ghost use Rattle.lists.specs.Test.{Tells};
 ghost use Rattle.limbs.specs.Value.{StandsFor, Proper, limit, value};

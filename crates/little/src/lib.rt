@@ -1,4 +1,6 @@
 // Little-endian numbers in bytes.
+#![tactic(auto)]
+
 ghost use Rattle.std.specs.Prelude.{◌≡◌, ◌+◌, ◌≤◌, ◌<◌, length};
 ghost use Rattle.lists.specs.Front.{front};
 ghost use Rattle.lists.specs.Put.{put};

@@ -1,4 +1,6 @@
 // One move of a copy by a retiming.
+#![tactic(auto)]
+
 mod moving;
 
 pub use moving::one_move;

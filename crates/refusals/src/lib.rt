@@ -1,1 +1,3 @@
+#![tactic(auto)]
+
 // The meaning of a refusal, and its laws; no function.

@@ -1,4 +1,6 @@
 // The search for the plan's retiming: refusal 9.
+#![tactic(auto)]
+
 mod order;
 mod raise;
 mod rounds;

@@ -10,7 +10,6 @@ use Rattle.lists.specs.Lowest.{LowestFailing}
 use Rattle.lists.proofs.FrontLaws.{at_front, front_rest}
 use Rattle.lists.proofs.StoreLaws.{at_zeros}
 use Rattle.lists.proofs.Order.{lt_or_ge, le_stable, eq_stable}
-use Rattle.refusals.specs.Table.{number}
 use Rattle.refusals.specs.First.{First}
 use Rattle.refusals.proofs.FirstLaws.{here, passed, none, extend, append, all_passed}
 use Rattle.sheet.specs.declared.Sheet.{Sheet}

@@ -1,4 +1,6 @@
 // Sheets: read from bytes, and written to bytes.
+#![tactic(auto)]
+
 mod limits;
 mod reader;
 mod writer;

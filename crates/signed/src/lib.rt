@@ -1,4 +1,6 @@
 // Whole numbers of either sign, and division rounded toward minus infinity.
+#![tactic(auto)]
+
 mod floor;
 mod parts;
 mod range;

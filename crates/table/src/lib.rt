@@ -1,1 +1,3 @@
+#![tactic(auto)]
+
 // The bench table as a theorem; no function.

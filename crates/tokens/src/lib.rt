@@ -1,4 +1,6 @@
 // The origin of one token.
+#![tactic(auto)]
+
 mod told;
 
 pub use told::origin_of;

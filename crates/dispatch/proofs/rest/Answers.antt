@@ -4,7 +4,6 @@ use native.Mathlib.Omega.{arith}
 use mir.Syntax.{w64}
 use mir.Val.{Fits}
 use lib.ListN.{length}
-use borrow.Author.Rules.{rules}
 use Rattle.dispatch.proofs.HandedLaws.{start_handed, round_handed, empty_handed}
 use Rattle.dispatch.proofs.rest.Goals as goal
 

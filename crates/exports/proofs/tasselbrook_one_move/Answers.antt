@@ -1,5 +1,4 @@
 use mir.Facts.{to_z-of_z}
-use borrow.Author.Rules.{rules}
 use Rattle.exports.proofs.tasselbrook_one_move.Goals as goal
 
 pub returns : goal.returns

@@ -1,6 +1,5 @@
 use Prim.Native.Nat.{ℕ, ◌+◌, ◌*◌, ◌/◌, ◌≤◌}
 use native.Mathlib.Omega.{arith}
-use borrow.Author.Rules.{rules}
 use Rattle.lists.specs.Front.{at}
 use Rattle.limbs.specs.Value.{base}
 use Rattle.limbs.proofs.ValueLaws.{product_small, sum_small, carry_small, times_is}

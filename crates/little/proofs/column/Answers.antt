@@ -1,10 +1,8 @@
-use Prim.Native.Nat.{◌≤◌, ◌-◌}
 use mathlib.Core.Path.{◌≡◌}
 use native.Mathlib.Omega.{arith}
-use lib.ListN.{length, length-set}
+use lib.ListN.{length-set}
 use borrow.Author.Rules.{rules}
 use Rattle.lists.proofs.FrontLaws.{front_none, front_more}
-use Rattle.lists.specs.Front.{front}
 use Rattle.little.specs.Little.{column_at}
 use Rattle.little.proofs.column.Goals as goal
 

@@ -1,9 +1,6 @@
 use Prim.Native.Nat.{◌≤◌, ◌-◌}
 use mathlib.Core.Path.{◌≡◌}
-use native.Mathlib.Omega.{arith}
-use lib.ListN.{length, length-set}
-use borrow.Author.Rules.{rules}
-use Rattle.lists.proofs.FrontLaws.{front_none, front_more}
+use lib.ListN.{length}
 use Rattle.lists.specs.Front.{front}
 use Rattle.little.specs.Little.{column_at}
 use Rattle.little.proofs.column.Given as goal

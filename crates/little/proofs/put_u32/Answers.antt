@@ -1,5 +1,4 @@
 use mathlib.Core.Path.{refl}
-use borrow.Author.Rules.{rules}
 use Rattle.lists.proofs.PutLaws.{wrote, wrote_more}
 use Rattle.little.specs.Little.{four}
 use Rattle.little.proofs.LittleLaws.{length_two}

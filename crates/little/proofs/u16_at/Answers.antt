@@ -1,5 +1,4 @@
 use native.Mathlib.Omega.{arith}
-use borrow.Author.Rules.{rules}
 use Rattle.little.proofs.u16_at.Goals as goal
 
 pub returns : goal.returns

@@ -1,11 +1,10 @@
-use Prim.Native.Nat.{◌-◌, ◌<◌}
+use Prim.Native.Nat.{◌<◌}
 use mathlib.Core.Path.{ap}
 use mathlib.Core.Logic.{inl, inr, ⊎_elim}
 use native.Mathlib.Omega.{arith}
-use borrow.Author.Rules.{rules}
 use Rattle.lists.specs.Front.{at}
 use Rattle.counts.proofs.RateLaws.{queue_fits}
-use Rattle.balance.proofs.GrowLaws.{Growing, ends, grow_first, leads, new_place, other_end, grow_next, all_grown}
+use Rattle.balance.proofs.GrowLaws.{ends, grow_first, leads, new_place, other_end, grow_next, all_grown}
 use Rattle.balance.proofs.reaching.reach.Goals as goal
 
 pub loop-count-init : goal.loop-count-init

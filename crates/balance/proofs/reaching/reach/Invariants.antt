@@ -1,11 +1,5 @@
-use Prim.Native.Nat.{◌-◌, ◌<◌}
-use mathlib.Core.Path.{ap}
-use mathlib.Core.Logic.{inl, inr, ⊎_elim}
-use native.Mathlib.Omega.{arith}
-use borrow.Author.Rules.{rules}
-use Rattle.lists.specs.Front.{at}
-use Rattle.counts.proofs.RateLaws.{queue_fits}
-use Rattle.balance.proofs.GrowLaws.{Growing, ends, grow_first, leads, new_place, other_end, grow_next, all_grown}
+use Prim.Native.Nat.{◌-◌}
+use Rattle.balance.proofs.GrowLaws.{Growing}
 use Rattle.balance.proofs.reaching.reach.Given as goal
 
 abbrev pub invariant-loop-count : goal.invariant-loop-count

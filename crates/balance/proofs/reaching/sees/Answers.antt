@@ -1,6 +1,5 @@
 use mathlib.Core.Path.{refl, sym, ◌∙◌}
 use mathlib.Core.Logic.{inl, inr, ⊎_elim}
-use borrow.Author.Rules.{rules}
 use Rattle.balance.proofs.reaching.sees.Goals as goal
 
 pub returns-then-u-station : goal.returns-then-u-station

@@ -1,10 +1,8 @@
-use Prim.Native.Nat.{ℕ, ◌≤◌, ◌<◌, ◌-◌}
-use mathlib.Core.Bool.{true}
+use Prim.Native.Nat.{◌≤◌, ◌<◌}
 use native.Mathlib.Omega.{arith}
 use borrow.Author.Rules.{rules}
 use borrow.Author.Count.{below_none, below_more}
-use borrow.Author.Tests.{not-true, not-false}
-use Rattle.balance.proofs.SpoilLaws.{AgreesAt, agrees_by, all_agree, none_balances}
+use Rattle.balance.proofs.SpoilLaws.{agrees_by, all_agree, none_balances}
 use Rattle.balance.proofs.spoiling.spoiled.Goals as goal
 
 pub loop-e-init : goal.loop-e-init

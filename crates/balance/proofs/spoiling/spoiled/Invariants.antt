@@ -1,10 +1,6 @@
 use Prim.Native.Nat.{ℕ, ◌≤◌, ◌<◌, ◌-◌}
 use mathlib.Core.Bool.{true}
-use native.Mathlib.Omega.{arith}
-use borrow.Author.Rules.{rules}
-use borrow.Author.Count.{below_none, below_more}
-use borrow.Author.Tests.{not-true, not-false}
-use Rattle.balance.proofs.SpoilLaws.{AgreesAt, agrees_by, all_agree, none_balances}
+use Rattle.balance.proofs.SpoilLaws.{AgreesAt}
 use Rattle.balance.proofs.spoiling.spoiled.Given as goal
 
 abbrev pub invariant-loop-e : goal.invariant-loop-e

@@ -1,7 +1,6 @@
-use Prim.Native.Nat.{◌+◌, ◌<◌}
+use Prim.Native.Nat.{◌<◌}
 use native.Mathlib.Omega.{arith}
-use borrow.Author.Rules.{rules}
-use Rattle.balance.proofs.WalkLaws.{Walked, walk_begin, second_step, left_second_fits, right_second_fits, walk_second, first_step, left_first_fits, right_first_fits, walk_first, walk_end}
+use Rattle.balance.proofs.WalkLaws.{walk_begin, second_step, left_second_fits, right_second_fits, walk_second, first_step, left_first_fits, right_first_fits, walk_first, walk_end}
 use Rattle.balance.proofs.way.agrees.Goals as goal
 
 pub loop-i-init : goal.loop-i-init

@@ -1,7 +1,5 @@
-use Prim.Native.Nat.{◌+◌, ◌<◌}
-use native.Mathlib.Omega.{arith}
-use borrow.Author.Rules.{rules}
-use Rattle.balance.proofs.WalkLaws.{Walked, walk_begin, second_step, left_second_fits, right_second_fits, walk_second, first_step, left_first_fits, right_first_fits, walk_first, walk_end}
+use Prim.Native.Nat.{◌+◌}
+use Rattle.balance.proofs.WalkLaws.{Walked}
 use Rattle.balance.proofs.way.agrees.Given as goal
 
 abbrev pub invariant-loop-i : goal.invariant-loop-i

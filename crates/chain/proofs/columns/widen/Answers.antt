@@ -1,10 +1,9 @@
-use Prim.Native.Nat.{◌≤◌, ◌-◌}
 use mathlib.Core.Path.{◌≡◌}
 use native.Mathlib.Omega.{arith}
 use lib.ListN.{length, length-set}
 use borrow.Author.Rules.{rules}
 use Rattle.lists.proofs.FrontLaws.{front_none, front_more}
-use Rattle.lists.specs.Front.{at, front}
+use Rattle.lists.specs.Front.{at}
 use Rattle.chain.proofs.ColumnLaws.{front_all}
 use Rattle.chain.proofs.columns.widen.Goals as goal
 

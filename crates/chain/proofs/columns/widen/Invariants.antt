@@ -1,11 +1,7 @@
 use Prim.Native.Nat.{◌≤◌, ◌-◌}
 use mathlib.Core.Path.{◌≡◌}
-use native.Mathlib.Omega.{arith}
-use lib.ListN.{length, length-set}
-use borrow.Author.Rules.{rules}
-use Rattle.lists.proofs.FrontLaws.{front_none, front_more}
+use lib.ListN.{length}
 use Rattle.lists.specs.Front.{at, front}
-use Rattle.chain.proofs.ColumnLaws.{front_all}
 use Rattle.chain.proofs.columns.widen.Given as goal
 
 abbrev pub invariant-loop-i : goal.invariant-loop-i

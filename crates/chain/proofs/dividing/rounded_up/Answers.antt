@@ -1,5 +1,4 @@
 use Rattle.chain.proofs.CeilingLaws.{ceiling_is}
-use borrow.Author.Rules.{rules}
 use Rattle.chain.proofs.dividing.rounded_up.Goals as goal
 
 pub returns : goal.returns

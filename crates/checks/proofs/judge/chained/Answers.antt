@@ -1,6 +1,5 @@
 use native.Mathlib.Omega.{arith}
 use borrow.Author.Tests.{not-true, not-false}
-use borrow.Author.Rules.{rules}
 use Rattle.counts.proofs.RowLaws.{counted_chain}
 use Rattle.refusals.proofs.AnswerLaws.{refuses}
 use Rattle.checks.specs.Check.{checked_kind}

@@ -1,4 +1,3 @@
-use borrow.Author.Rules.{rules}
 use Rattle.checks.proofs.SheetLaws.{read_chain, read_delays}
 use Rattle.refusals.proofs.AnswerLaws.{refuses}
 use Rattle.checks.specs.Check.{checked_kind}

@@ -1,7 +1,5 @@
 use mathlib.Core.Path.{refl}
 use native.Mathlib.Omega.{arith}
-use borrow.Author.Tests.{not-true, not-false}
-use borrow.Author.Rules.{rules}
 use Rattle.firing.proofs.PeriodLaws.{round_wanted}
 use Rattle.refusals.proofs.AnswerLaws.{refuses}
 use Rattle.checks.specs.Check.{checked_kind}

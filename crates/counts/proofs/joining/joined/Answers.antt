@@ -1,9 +1,8 @@
-use Prim.Native.Nat.{◌-◌}
 use mathlib.Core.Path.{refl}
 use native.Mathlib.Omega.{arith}
 use borrow.Author.Rules.{rules}
 use Rattle.lists.proofs.TestLaws.{tells_true, tells_false}
-use Rattle.counts.proofs.MarkLaws.{Marking, mark_first, new_station, mark_next, all_joined, not_joined}
+use Rattle.counts.proofs.MarkLaws.{mark_first, new_station, mark_next, all_joined, not_joined}
 use Rattle.counts.proofs.joining.joined.Goals as goal
 
 pub loop-count-init : goal.loop-count-init

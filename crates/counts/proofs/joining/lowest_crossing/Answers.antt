@@ -1,9 +1,8 @@
-use Prim.Native.Nat.{ℕ, ◌≤◌, ◌<◌, ◌-◌}
+use Prim.Native.Nat.{◌<◌}
 use mathlib.Core.Path.{refl}
 use native.Mathlib.Omega.{arith}
 use borrow.Author.Rules.{rules}
 use borrow.Author.Count.{below_none, below_more}
-use Rattle.counts.specs.Joining.{OneSide}
 use Rattle.counts.proofs.MarkLaws.{source_new, sink_new}
 use Rattle.counts.proofs.joining.lowest_crossing.Goals as goal
 

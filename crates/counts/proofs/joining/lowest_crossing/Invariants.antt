@@ -1,10 +1,5 @@
 use Prim.Native.Nat.{ℕ, ◌≤◌, ◌<◌, ◌-◌}
-use mathlib.Core.Path.{refl}
-use native.Mathlib.Omega.{arith}
-use borrow.Author.Rules.{rules}
-use borrow.Author.Count.{below_none, below_more}
 use Rattle.counts.specs.Joining.{OneSide}
-use Rattle.counts.proofs.MarkLaws.{source_new, sink_new}
 use Rattle.counts.proofs.joining.lowest_crossing.Given as goal
 
 abbrev pub invariant-loop-e : goal.invariant-loop-e

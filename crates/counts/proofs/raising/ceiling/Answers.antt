@@ -1,4 +1,3 @@
-use borrow.Author.Rules.{rules}
 use Rattle.chain.proofs.CeilingLaws.{ceiling_is}
 use Rattle.counts.proofs.raising.ceiling.Goals as goal
 

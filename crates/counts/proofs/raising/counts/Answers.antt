@@ -1,8 +1,7 @@
-use Prim.Native.Nat.{◌≤◌, ◌<◌, ◌-◌}
+use Prim.Native.Nat.{◌≤◌, ◌<◌}
 use native.Mathlib.Omega.{arith}
-use borrow.Author.Rules.{rules}
 use Rattle.lists.specs.Front.{at}
-use Rattle.counts.proofs.RaiseLaws.{Raising, raise_begin, counts_small, raised_station, raised_within, raise_next, found, none_found}
+use Rattle.counts.proofs.RaiseLaws.{raise_begin, counts_small, raised_station, raised_within, raise_next, found, none_found}
 use Rattle.counts.proofs.RateLaws.{queue_fits}
 use Rattle.counts.proofs.raising.counts.Goals as goal
 

@@ -1,9 +1,5 @@
-use Prim.Native.Nat.{◌≤◌, ◌<◌, ◌-◌}
-use native.Mathlib.Omega.{arith}
-use borrow.Author.Rules.{rules}
-use Rattle.lists.specs.Front.{at}
-use Rattle.counts.proofs.RaiseLaws.{Raising, raise_begin, counts_small, raised_station, raised_within, raise_next, found, none_found}
-use Rattle.counts.proofs.RateLaws.{queue_fits}
+use Prim.Native.Nat.{◌-◌}
+use Rattle.counts.proofs.RaiseLaws.{Raising}
 use Rattle.counts.proofs.raising.counts.Given as goal
 
 abbrev pub invariant-loop-total : goal.invariant-loop-total

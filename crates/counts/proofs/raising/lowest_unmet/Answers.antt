@@ -1,9 +1,6 @@
-use Prim.Native.Nat.{ℕ, ◌≤◌, ◌<◌, ◌-◌}
 use native.Mathlib.Omega.{arith}
 use borrow.Author.Rules.{rules}
 use borrow.Author.Count.{below_none, below_more}
-use Rattle.lists.specs.Front.{at}
-use Rattle.counts.specs.Raising.{Balanced}
 use Rattle.counts.proofs.raising.lowest_unmet.Goals as goal
 
 pub loop-e-init : goal.loop-e-init

@@ -1,7 +1,4 @@
 use Prim.Native.Nat.{ℕ, ◌≤◌, ◌<◌, ◌-◌}
-use native.Mathlib.Omega.{arith}
-use borrow.Author.Rules.{rules}
-use borrow.Author.Count.{below_none, below_more}
 use Rattle.lists.specs.Front.{at}
 use Rattle.counts.specs.Raising.{Balanced}
 use Rattle.counts.proofs.raising.lowest_unmet.Given as goal

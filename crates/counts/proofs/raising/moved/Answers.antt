@@ -1,6 +1,5 @@
 use mathlib.Core.Path.{refl}
 use native.Mathlib.Omega.{arith}
-use borrow.Author.Rules.{rules}
 use Rattle.counts.proofs.RateLaws.{tokens_small}
 use Rattle.counts.proofs.raising.moved.Goals as goal
 

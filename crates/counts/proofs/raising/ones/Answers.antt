@@ -1,9 +1,7 @@
-use Prim.Native.Nat.{◌≤◌, ◌-◌}
 use mathlib.Core.Path.{refl}
 use native.Mathlib.Omega.{arith}
 use native.Mathlib.Nat.{le_antisymm}
 use borrow.Author.Rules.{rules}
-use Rattle.counts.specs.Raising.{Ones}
 use Rattle.counts.proofs.RateLaws.{ones_more}
 use Rattle.lists.proofs.FilledLaws.{filled_none}
 use Rattle.counts.proofs.raising.ones.Goals as goal

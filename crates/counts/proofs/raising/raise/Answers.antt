@@ -1,5 +1,4 @@
 use native.Mathlib.Omega.{arith}
-use borrow.Author.Rules.{rules}
 use Rattle.lists.proofs.Order.{le_stable}
 use Rattle.counts.proofs.RateLaws.{raise_source, raise_other}
 use Rattle.counts.proofs.raising.raise.Goals as goal

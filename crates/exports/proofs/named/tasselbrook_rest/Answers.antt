@@ -1,4 +1,3 @@
-use borrow.Author.Rules.{rules}
 use Rattle.exports.proofs.NamedLaws.{start_named, round_named}
 use Rattle.exports.proofs.named.tasselbrook_rest.Goals as goal
 

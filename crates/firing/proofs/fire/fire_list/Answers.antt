@@ -1,8 +1,8 @@
-use Prim.Native.Nat.{◌-◌, ◌≤◌, ◌<◌}
+use Prim.Native.Nat.{◌≤◌, ◌<◌}
 use mathlib.Core.Path.{◌≡◌}
 use native.Mathlib.Omega.{arith}
 use borrow.Author.Rules.{rules}
-use Rattle.firing.proofs.FireLaws.{SoFar, none_fired_lem, fired_few, kept_length, one_more, stalled, completed}
+use Rattle.firing.proofs.FireLaws.{none_fired_lem, fired_few, kept_length, one_more, stalled, completed}
 use Rattle.firing.proofs.fire.fire_list.Goals as goal
 
 pub loop-k-init : goal.loop-k-init

@@ -1,8 +1,5 @@
-use Prim.Native.Nat.{◌-◌, ◌≤◌, ◌<◌}
-use mathlib.Core.Path.{◌≡◌}
-use native.Mathlib.Omega.{arith}
-use borrow.Author.Rules.{rules}
-use Rattle.firing.proofs.FireLaws.{SoFar, none_fired_lem, fired_few, kept_length, one_more, stalled, completed}
+use Prim.Native.Nat.{◌-◌, ◌≤◌}
+use Rattle.firing.proofs.FireLaws.{SoFar}
 use Rattle.firing.proofs.fire.fire_list.Given as goal
 
 abbrev pub invariant-loop-k : goal.invariant-loop-k

@@ -1,9 +1,7 @@
-use Prim.Native.Nat.{◌-◌, ◌≤◌}
 use mathlib.Core.Path.{◌≡◌, refl}
 use native.Mathlib.Omega.{arith}
-use lib.ListN.{length, length-set}
+use lib.ListN.{length-set}
 use borrow.Author.Rules.{rules}
-use Rattle.firing.specs.Late.{LateCounts}
 use Rattle.firing.proofs.EndLaws.{place_of}
 use Rattle.lists.proofs.FilledLaws.{filled_none, filled_more}
 use Rattle.firing.proofs.late.late_counts.Goals as goal

@@ -1,11 +1,7 @@
 use Prim.Native.Nat.{◌-◌, ◌≤◌}
-use mathlib.Core.Path.{◌≡◌, refl}
-use native.Mathlib.Omega.{arith}
-use lib.ListN.{length, length-set}
-use borrow.Author.Rules.{rules}
+use mathlib.Core.Path.{◌≡◌}
+use lib.ListN.{length}
 use Rattle.firing.specs.Late.{LateCounts}
-use Rattle.firing.proofs.EndLaws.{place_of}
-use Rattle.lists.proofs.FilledLaws.{filled_none, filled_more}
 use Rattle.firing.proofs.late.late_counts.Given as goal
 
 abbrev pub invariant-loop-v : goal.invariant-loop-v

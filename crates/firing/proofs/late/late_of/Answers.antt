@@ -1,9 +1,8 @@
-use Prim.Native.Nat.{◌+◌, ◌-◌, ◌≤◌}
+use Prim.Native.Nat.{◌+◌}
 use mathlib.Core.Path.{◌≡◌}
 use native.Mathlib.Omega.{arith}
 use borrow.Author.Rules.{rules}
 use Rattle.dataflow.proofs.LateLaws.{few_of}
-use Rattle.firing.specs.Late.{EndsAfter}
 use Rattle.firing.proofs.EndLaws.{none_ended, ends_late, ends_in_time}
 use Rattle.firing.proofs.late.late_of.Goals as goal
 use Rattle.firing.proofs.late.late_of.Goals.{then-target-table, else-target-table}
@@ -24,7 +23,7 @@ loop-i-preserved c =
     let a = c.args in (
       search rules,
       elim c.if-target-table.branch [
-        then-target-table w ↦ rw w.late-is (ends_late a.target a.from a.time a.table.now c.loop-i.invariant.1 w.if-target-table.true)
+        | then-target-table w ↦ rw w.late-is (ends_late a.target a.from a.time a.table.now c.loop-i.invariant.1 w.if-target-table.true)
         | else-target-table w ↦ rw w.late-is (ends_in_time a.target a.from a.time a.table.now c.loop-i.invariant.1 w.if-target-table.false)
       ],
     )

@@ -4,7 +4,7 @@ use native.Mathlib.Omega.{arith}
 use borrow.Author.Rules.{rules}
 use Rattle.lists.specs.Front.{at}
 use Rattle.dataflow.specs.Counts.{sum}
-use Rattle.firing.proofs.EndLaws.{place_of, EndSoFar, none_seen, end_more, all_seen}
+use Rattle.firing.proofs.EndLaws.{place_of, none_seen, end_more, all_seen}
 use Rattle.firing.proofs.late.latest_end.Goals as goal
 
 pub loop-v-init : goal.loop-v-init

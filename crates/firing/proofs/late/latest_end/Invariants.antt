@@ -1,10 +1,5 @@
-use Prim.Native.Nat.{◌+◌, ◌-◌, ◌≤◌}
-use mathlib.Core.Path.{◌≡◌}
-use native.Mathlib.Omega.{arith}
-use borrow.Author.Rules.{rules}
-use Rattle.lists.specs.Front.{at}
-use Rattle.dataflow.specs.Counts.{sum}
-use Rattle.firing.proofs.EndLaws.{place_of, EndSoFar, none_seen, end_more, all_seen}
+use Prim.Native.Nat.{◌-◌, ◌≤◌}
+use Rattle.firing.proofs.EndLaws.{EndSoFar}
 use Rattle.firing.proofs.late.latest_end.Given as goal
 
 abbrev pub invariant-loop-v : goal.invariant-loop-v

@@ -1,11 +1,6 @@
-use Prim.Native.Nat.{ℕ, ◌+◌, ◌-◌, ◌*◌, ◌≤◌, ◌<◌}
-use native.Mathlib.Omega.{arith}
-use borrow.Author.Rules.{rules}
-use borrow.Author.Count.{below_none, below_more}
-use Rattle.lists.specs.Front.{at}
-use Rattle.lists.specs.Test.{Tells}
+use Prim.Native.Nat.{ℕ, ◌-◌, ◌≤◌, ◌<◌}
 use Rattle.firing.specs.Scan.{Can}
-use Rattle.firing.proofs.ScanLaws.{FedBelow, fed_none, fed_more, fed_all}
+use Rattle.firing.proofs.ScanLaws.{FedBelow}
 use Rattle.firing.proofs.scan.ready.Given as goal
 
 abbrev pub invariant-loop-e : goal.invariant-loop-e

@@ -1,10 +1,10 @@
-use Prim.Native.Nat.{suc, ◌-◌, ◌≤◌, ◌<◌}
+use Prim.Native.Nat.{suc, ◌-◌, ◌<◌}
 use mathlib.Core.Path.{◌≡◌, refl}
 use native.Mathlib.Omega.{arith}
-use lib.ListN.{length, length-set, get_or-replicate}
+use lib.ListN.{length-set, get_or-replicate}
 use borrow.Author.Rules.{rules}
 use Rattle.lists.specs.Front.{at}
-use Rattle.firing.proofs.ThreadLaws.{Threading, none_threaded, one_more_threaded, all_threaded}
+use Rattle.firing.proofs.ThreadLaws.{none_threaded, one_more_threaded, all_threaded}
 use Rattle.firing.proofs.thread.threads.Goals as goal
 
 pub loop-left-init : goal.loop-left-init

@@ -1,10 +1,7 @@
-use Prim.Native.Nat.{suc, ◌-◌, ◌≤◌, ◌<◌}
-use mathlib.Core.Path.{◌≡◌, refl}
-use native.Mathlib.Omega.{arith}
-use lib.ListN.{length, length-set, get_or-replicate}
-use borrow.Author.Rules.{rules}
-use Rattle.lists.specs.Front.{at}
-use Rattle.firing.proofs.ThreadLaws.{Threading, none_threaded, one_more_threaded, all_threaded}
+use Prim.Native.Nat.{◌≤◌}
+use mathlib.Core.Path.{◌≡◌}
+use lib.ListN.{length}
+use Rattle.firing.proofs.ThreadLaws.{Threading}
 use Rattle.firing.proofs.thread.threads.Given as goal
 
 abbrev pub invariant-loop-left : goal.invariant-loop-left

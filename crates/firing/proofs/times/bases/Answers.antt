@@ -1,12 +1,10 @@
-use Prim.Native.Nat.{◌≤◌, ◌-◌}
 use mathlib.Core.Path.{◌≡◌, refl, ◌∙◌}
 use native.Mathlib.Omega.{arith}
-use lib.ListN.{length, length-set}
+use lib.ListN.{length-set}
 use borrow.Author.Rules.{rules}
 use Rattle.lists.specs.Front.{at}
 use Rattle.lists.proofs.StoreLaws.{at_zeros}
 use Rattle.dataflow.proofs.SumLaws.{sum_before}
-use Rattle.firing.specs.Times.{Bases}
 use Rattle.firing.proofs.BaseLaws.{bases_more}
 use Rattle.firing.proofs.times.bases.Goals as goal
 

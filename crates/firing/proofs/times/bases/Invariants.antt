@@ -1,13 +1,7 @@
 use Prim.Native.Nat.{◌≤◌, ◌-◌}
-use mathlib.Core.Path.{◌≡◌, refl, ◌∙◌}
-use native.Mathlib.Omega.{arith}
-use lib.ListN.{length, length-set}
-use borrow.Author.Rules.{rules}
-use Rattle.lists.specs.Front.{at}
-use Rattle.lists.proofs.StoreLaws.{at_zeros}
-use Rattle.dataflow.proofs.SumLaws.{sum_before}
+use mathlib.Core.Path.{◌≡◌}
+use lib.ListN.{length}
 use Rattle.firing.specs.Times.{Bases}
-use Rattle.firing.proofs.BaseLaws.{bases_more}
 use Rattle.firing.proofs.times.bases.Given as goal
 
 abbrev pub invariant-loop-v : goal.invariant-loop-v

@@ -1,11 +1,5 @@
-use Prim.Native.Nat.{◌-◌, ◌≤◌, ◌<◌}
-use mathlib.Core.Path.{◌≡◌}
-use native.Mathlib.Omega.{arith}
-use borrow.Author.Rules.{rules}
-use Rattle.lists.specs.Front.{at}
-use Rattle.firing.specs.Walk.{Walkable}
-use Rattle.firing.proofs.PushLaws.{copies_fit}
-use Rattle.firing.proofs.WalkedLaws.{WalkedSoFar, none_walked, walkable, step_walked, all_walked}
+use Prim.Native.Nat.{◌-◌, ◌≤◌}
+use Rattle.firing.proofs.WalkedLaws.{WalkedSoFar}
 use Rattle.firing.proofs.times.time_table.Given as goal
 
 abbrev pub invariant-loop-k : goal.invariant-loop-k

@@ -2,7 +2,6 @@ use Prim.Native.Nat.{◌/◌, ◌≤◌, ◌<◌}
 use mathlib.Core.Path.{refl}
 use native.Mathlib.Nat.{mul-le-mul, div-lt_iff_lt-mul}
 use native.Mathlib.Omega.{arith}
-use borrow.Author.Rules.{rules}
 use Rattle.firing.proofs.walk.give.Goals as goal
 
 pub overflow_mul-count : goal.overflow_mul-count

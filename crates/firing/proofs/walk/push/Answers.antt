@@ -1,10 +1,9 @@
-use Prim.Native.Nat.{ℕ, ◌+◌, ◌-◌, ◌*◌, ◌≤◌, ◌<◌}
+use Prim.Native.Nat.{ℕ, ◌+◌, ◌*◌, ◌≤◌, ◌<◌}
 use mathlib.Core.Path.{◌≡◌, ap, ◌∙◌}
 use native.Mathlib.Omega.{arith}
-use borrow.Author.Rules.{rules}
 use Rattle.lists.specs.Front.{at}
 use Rattle.dataflow.specs.Counts.{sum}
-use Rattle.firing.proofs.PushLaws.{PushedBelow, push_none, push_given, push_all, copies_fit}
+use Rattle.firing.proofs.PushLaws.{push_none, push_given, push_all, copies_fit}
 use Rattle.firing.proofs.walk.push.Goals as goal
 
 pub bounds-head-v : goal.bounds-head-v

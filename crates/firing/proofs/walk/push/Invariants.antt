@@ -1,10 +1,5 @@
-use Prim.Native.Nat.{ℕ, ◌+◌, ◌-◌, ◌*◌, ◌≤◌, ◌<◌}
-use mathlib.Core.Path.{◌≡◌, ap, ◌∙◌}
-use native.Mathlib.Omega.{arith}
-use borrow.Author.Rules.{rules}
-use Rattle.lists.specs.Front.{at}
-use Rattle.dataflow.specs.Counts.{sum}
-use Rattle.firing.proofs.PushLaws.{PushedBelow, push_none, push_given, push_all, copies_fit}
+use Prim.Native.Nat.{◌-◌}
+use Rattle.firing.proofs.PushLaws.{PushedBelow}
 use Rattle.firing.proofs.walk.push.Given as goal
 
 abbrev pub invariant-loop-e : goal.invariant-loop-e

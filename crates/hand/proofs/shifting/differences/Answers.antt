@@ -1,9 +1,7 @@
-use Prim.Native.Nat.{◌-◌, ◌≤◌}
 use mathlib.Core.Path.{◌≡◌, refl}
 use native.Mathlib.Omega.{arith}
-use lib.ListN.{length, length-set}
+use lib.ListN.{length-set}
 use Rattle.lists.proofs.FilledLaws.{filled_none, filled_more}
-use Rattle.hand.specs.Shift.{Differences}
 use borrow.Author.Rules.{rules}
 use Rattle.hand.proofs.shifting.differences.Goals as goal
 

@@ -1,10 +1,7 @@
 use Prim.Native.Nat.{◌-◌, ◌≤◌}
-use mathlib.Core.Path.{◌≡◌, refl}
-use native.Mathlib.Omega.{arith}
-use lib.ListN.{length, length-set}
-use Rattle.lists.proofs.FilledLaws.{filled_none, filled_more}
+use mathlib.Core.Path.{◌≡◌}
+use lib.ListN.{length}
 use Rattle.hand.specs.Shift.{Differences}
-use borrow.Author.Rules.{rules}
 use Rattle.hand.proofs.shifting.differences.Given as goal
 
 abbrev pub invariant-loop-e : goal.invariant-loop-e

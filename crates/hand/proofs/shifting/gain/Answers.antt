@@ -3,7 +3,6 @@ use mir.Facts.{to_z-of_z}
 use mathlib.Core.Path.{◌≡◌, refl}
 use Rattle.dataflow.specs.Whole as whole
 use Rattle.hand.proofs.ShiftLaws.{products}
-use borrow.Author.Rules.{rules}
 use Rattle.hand.proofs.shifting.gain.Goals as goal
 
 pub overflow_mul-result : goal.overflow_mul-result

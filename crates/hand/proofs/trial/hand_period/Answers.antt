@@ -1,11 +1,9 @@
 use native.Mathlib.Omega.{arith}
-use borrow.Author.Tests.{not-true, not-false}
 use Rattle.refusals.specs.Table.{hand}
 use Rattle.refusals.proofs.FirstLaws.{here_now}
 use Rattle.refusals.proofs.AnswerLaws.{refuses, passes}
 use Rattle.checks.proofs.CheckLaws.{ready_own, check_refuses, check_follows}
 use Rattle.hand.specs.Hand.{hand_kind, hand_rows, Tried}
-use borrow.Author.Rules.{rules}
 use Rattle.hand.proofs.trial.hand_period.Goals as goal
 
 pub returns-then-checked-ne0 : goal.returns-then-checked-ne0

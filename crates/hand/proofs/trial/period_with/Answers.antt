@@ -1,5 +1,4 @@
 use native.Mathlib.Omega.{arith}
-use borrow.Author.Rules.{rules}
 use Rattle.firing.proofs.PeriodLaws.{round_wanted, round_ordered, period_is}
 use Rattle.checks.proofs.CheckLaws.{ready_counted}
 use Rattle.hand.proofs.TrialLaws.{must_fire}

@@ -1,6 +1,5 @@
 use mathlib.Core.Path.{◌≡◌, refl}
 use native.Mathlib.Omega.{arith}
-use borrow.Author.Rules.{rules}
 use Rattle.lists.specs.Lowest.{LowestFailing}
 use Rattle.refusals.proofs.AnswerLaws.{refuses, accepts, passes}
 use Rattle.hand.specs.Hand.{hand_kind}

@@ -1,12 +1,10 @@
 use native.Mathlib.Omega.{arith}
-use borrow.Author.Tests.{not-true, not-false}
 use mir.Facts.{to_z-of_z}
 use Rattle.refusals.proofs.AnswerLaws.{refuses}
 use Rattle.moves.specs.Moving.{moved_kind}
 use Rattle.chain.proofs.ChainLaws.{count_few}
 use Rattle.checks.proofs.CheckLaws.{ready_counted}
 use Rattle.moves.proofs.MovingLaws.{no_move, goes}
-use borrow.Author.Rules.{rules}
 use Rattle.moves.proofs.moving.fitting.Goals as goal
 
 pub returns-then-station-checked : goal.returns-then-station-checked

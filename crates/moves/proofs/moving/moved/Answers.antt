@@ -9,7 +9,6 @@ use Rattle.dataflow.specs.Whole as whole
 use Rattle.dataflow.specs.Move.{floor_div, floor_mod}
 use Rattle.signed.proofs.PartLaws.{parts_small, difference_fits, floor_fits}
 use Rattle.moves.proofs.MovingLaws.{number_moved}
-use borrow.Author.Rules.{rules}
 use Rattle.moves.proofs.moving.moved.Goals as goal
 
 pub difference-number-requires : goal.difference-number-requires

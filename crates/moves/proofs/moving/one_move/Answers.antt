@@ -2,7 +2,6 @@ use mathlib.Core.List.{[], ◌∷◌}
 use mir.Facts.{to_z-of_z}
 use Rattle.checks.proofs.CheckLaws.{ready_own, check_refuses, check_follows}
 use Rattle.moves.specs.Moving.{moved_kind, move_row, Goes}
-use borrow.Author.Rules.{rules}
 use Rattle.moves.proofs.moving.one_move.Goals as goal
 
 pub returns-then-checked-ne0 : goal.returns-then-checked-ne0

@@ -1,4 +1,3 @@
-use borrow.Author.Rules.{rules}
 use Rattle.planner.proofs.LentLaws.{plans_lent}
 use Rattle.planner.proofs.lending.plan_lent.Goals as goal
 

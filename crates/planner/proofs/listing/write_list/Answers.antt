@@ -1,4 +1,3 @@
-use borrow.Author.Rules.{rules}
 use Rattle.planner.proofs.ListingLaws.{list_written}
 use Rattle.planner.proofs.listing.write_list.Goals as goal
 

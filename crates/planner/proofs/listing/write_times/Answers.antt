@@ -1,9 +1,8 @@
-use Prim.Native.Nat.{◌-◌, ◌≤◌}
 use mathlib.Core.Path.{◌≡◌}
 use native.Mathlib.Omega.{arith}
-use lib.ListN.{length, length-set}
+use lib.ListN.{length-set}
 use borrow.Author.Rules.{rules}
-use Rattle.lists.specs.Front.{at, front}
+use Rattle.lists.specs.Front.{at}
 use Rattle.lists.proofs.FrontLaws.{front_none, front_more}
 use Rattle.planner.proofs.listing.write_times.Goals as goal
 

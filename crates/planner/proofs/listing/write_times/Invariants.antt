@@ -1,10 +1,7 @@
 use Prim.Native.Nat.{◌-◌, ◌≤◌}
 use mathlib.Core.Path.{◌≡◌}
-use native.Mathlib.Omega.{arith}
-use lib.ListN.{length, length-set}
-use borrow.Author.Rules.{rules}
+use lib.ListN.{length}
 use Rattle.lists.specs.Front.{at, front}
-use Rattle.lists.proofs.FrontLaws.{front_none, front_more}
 use Rattle.planner.proofs.listing.write_times.Given as goal
 
 abbrev pub invariant-loop-k : goal.invariant-loop-k

@@ -1,4 +1,3 @@
-use borrow.Author.Rules.{rules}
 use Rattle.planner.specs.Making.{Begun}
 use Rattle.planner.proofs.WorkLaws.{small, back_small, firing_small}
 use Rattle.planner.proofs.making.begun.Goals as goal

@@ -1,6 +1,5 @@
 use mathlib.Core.Logic.{inl, inr}
 use native.Mathlib.Omega.{arith}
-use borrow.Author.Rules.{rules}
 use Rattle.planner.specs.Making.{HasRoom}
 use Rattle.planner.proofs.StandLaws.{stand}
 use Rattle.planner.proofs.AnswerLaws.{answer_refused, answer_planned}

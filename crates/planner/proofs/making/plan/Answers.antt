@@ -1,4 +1,3 @@
-use borrow.Author.Rules.{rules}
 use Rattle.checks.proofs.CheckLaws.{ready_own}
 use Rattle.planner.proofs.AnswerLaws.{check_refused, check_passed}
 use Rattle.planner.proofs.making.plan.Goals as goal

@@ -1,6 +1,5 @@
 use native.Mathlib.Omega.{arith}
 use borrow.Author.Tests.{not-true, not-false}
-use borrow.Author.Rules.{rules}
 use Rattle.checks.proofs.CheckLaws.{ready_counted, ready_ordered, ready_given}
 use Rattle.refusals.proofs.AnswerLaws.{passes}
 use Rattle.planner.specs.Plan.{plan_kind}

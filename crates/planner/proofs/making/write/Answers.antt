@@ -1,4 +1,3 @@
-use borrow.Author.Rules.{rules}
 use Rattle.planner.proofs.CompleteLaws.{round_completes, start_completes}
 use Rattle.planner.proofs.WorkLaws.{round_fireable, start_fireable}
 use Rattle.planner.proofs.making.write.Goals as goal

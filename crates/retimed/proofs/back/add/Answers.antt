@@ -1,9 +1,8 @@
-use Prim.Native.Nat.{◌-◌, ◌≤◌}
+use Prim.Native.Nat.{◌≤◌}
 use mathlib.Core.Path.{◌≡◌, refl}
 use native.Mathlib.Omega.{arith}
 use borrow.Author.Rules.{rules}
 use Rattle.lists.specs.Front.{at}
-use Rattle.dataflow.specs.Counts.{sum}
 use Rattle.retimed.proofs.BackLaws.{add_more, sum_most}
 use Rattle.retimed.proofs.back.add.Goals as goal
 

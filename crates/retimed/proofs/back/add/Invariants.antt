@@ -1,10 +1,7 @@
 use Prim.Native.Nat.{◌-◌, ◌≤◌}
-use mathlib.Core.Path.{◌≡◌, refl}
-use native.Mathlib.Omega.{arith}
-use borrow.Author.Rules.{rules}
+use mathlib.Core.Path.{◌≡◌}
 use Rattle.lists.specs.Front.{at}
 use Rattle.dataflow.specs.Counts.{sum}
-use Rattle.retimed.proofs.BackLaws.{add_more, sum_most}
 use Rattle.retimed.proofs.back.add.Given as goal
 
 abbrev pub invariant-loop-v : goal.invariant-loop-v

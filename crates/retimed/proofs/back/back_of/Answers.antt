@@ -1,8 +1,6 @@
-use Prim.Native.Nat.{◌-◌, ◌≤◌}
 use mathlib.Core.Path.{◌≡◌}
 use native.Mathlib.Omega.{arith}
 use borrow.Author.Rules.{rules}
-use Rattle.retimed.specs.Back.{BackOf}
 use Rattle.retimed.proofs.BackLaws.{back_none, back_more}
 use Rattle.retimed.proofs.back.back_of.Goals as goal
 

@@ -1,9 +1,5 @@
 use Prim.Native.Nat.{◌-◌, ◌≤◌}
-use mathlib.Core.Path.{◌≡◌}
-use native.Mathlib.Omega.{arith}
-use borrow.Author.Rules.{rules}
 use Rattle.retimed.specs.Back.{BackOf}
-use Rattle.retimed.proofs.BackLaws.{back_none, back_more}
 use Rattle.retimed.proofs.back.back_of.Given as goal
 
 abbrev pub invariant-loop-v : goal.invariant-loop-v

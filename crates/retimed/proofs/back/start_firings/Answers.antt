@@ -1,12 +1,11 @@
-use Prim.Native.Nat.{◌-◌, ◌*◌, ◌≤◌}
+use Prim.Native.Nat.{◌*◌, ◌≤◌}
 use mathlib.Core.Path.{◌≡◌, refl}
 use native.Mathlib.Nat.{mul-le-mul}
 use native.Mathlib.Omega.{arith}
-use lib.ListN.{length, length-set}
+use lib.ListN.{length-set}
 use borrow.Author.Rules.{rules}
 use Rattle.lists.specs.Front.{at}
 use Rattle.lists.proofs.FilledLaws.{filled_none, filled_more}
-use Rattle.retimed.specs.Back.{StartFirings}
 use Rattle.retimed.proofs.back.start_firings.Goals as goal
 
 pub loop-v-init : goal.loop-v-init

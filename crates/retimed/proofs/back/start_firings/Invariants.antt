@@ -1,11 +1,6 @@
-use Prim.Native.Nat.{◌-◌, ◌*◌, ◌≤◌}
-use mathlib.Core.Path.{◌≡◌, refl}
-use native.Mathlib.Nat.{mul-le-mul}
-use native.Mathlib.Omega.{arith}
-use lib.ListN.{length, length-set}
-use borrow.Author.Rules.{rules}
-use Rattle.lists.specs.Front.{at}
-use Rattle.lists.proofs.FilledLaws.{filled_none, filled_more}
+use Prim.Native.Nat.{◌-◌, ◌≤◌}
+use mathlib.Core.Path.{◌≡◌}
+use lib.ListN.{length}
 use Rattle.retimed.specs.Back.{StartFirings}
 use Rattle.retimed.proofs.back.start_firings.Given as goal
 

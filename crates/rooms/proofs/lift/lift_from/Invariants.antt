@@ -1,11 +1,8 @@
 use Prim.Native.Nat.{◌-◌}
 use mathlib.Core.Path.{◌≡◌}
-use native.Mathlib.Omega.{arith}
-use lib.ListN.{length, length-set}
-use borrow.Author.Rules.{rules}
-use Rattle.lists.specs.Front.{at}
+use lib.ListN.{length}
 use Rattle.rooms.specs.Lifted.{HoldsBy}
-use Rattle.rooms.proofs.OutLaws.{LiftedBelow, below_none, below_more, below_all}
+use Rattle.rooms.proofs.OutLaws.{LiftedBelow}
 use Rattle.rooms.proofs.lift.lift_from.Given as goal
 
 abbrev pub invariant-loop-e : goal.invariant-loop-e

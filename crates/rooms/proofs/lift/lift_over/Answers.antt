@@ -1,10 +1,9 @@
-use Prim.Native.Nat.{◌+◌, ◌-◌, ◌≤◌, ◌<◌}
+use Prim.Native.Nat.{◌+◌, ◌-◌, ◌<◌}
 use mathlib.Core.Path.{◌≡◌}
 use native.Mathlib.Omega.{arith}
-use lib.ListN.{length, set}
+use lib.ListN.{set}
 use borrow.Author.Rules.{rules}
 use Rattle.lists.specs.Front.{at}
-use Rattle.rooms.specs.Lifted.{Lifted, Peaks}
 use Rattle.rooms.proofs.FiredLaws.{FiredSoFar, none_fired_lem, here, stretch_fired, small, all_put, peaks_none, peaks_more}
 use Rattle.rooms.proofs.lift.lift_over.Goals as goal
 

@@ -1,11 +1,8 @@
-use Prim.Native.Nat.{◌+◌, ◌-◌, ◌≤◌, ◌<◌}
+use Prim.Native.Nat.{◌-◌, ◌≤◌, ◌<◌}
 use mathlib.Core.Path.{◌≡◌}
-use native.Mathlib.Omega.{arith}
-use lib.ListN.{length, set}
-use borrow.Author.Rules.{rules}
-use Rattle.lists.specs.Front.{at}
+use lib.ListN.{length}
 use Rattle.rooms.specs.Lifted.{Lifted, Peaks}
-use Rattle.rooms.proofs.FiredLaws.{FiredSoFar, none_fired_lem, here, stretch_fired, small, all_put, peaks_none, peaks_more}
+use Rattle.rooms.proofs.FiredLaws.{FiredSoFar}
 use Rattle.rooms.proofs.lift.lift_over.Given as goal
 
 abbrev pub invariant-loop-k : goal.invariant-loop-k

@@ -1,7 +1,6 @@
-use Prim.Native.Nat.{◌-◌, ◌≤◌, ◌<◌}
 use native.Mathlib.Omega.{arith}
 use borrow.Author.Rules.{rules}
-use Rattle.rooms.proofs.StretchLaws.{Same, same_one, same_more}
+use Rattle.rooms.proofs.StretchLaws.{same_one, same_more}
 use Rattle.rooms.proofs.lift.stretch_end.Goals as goal
 
 pub loop-end-init : goal.loop-end-init

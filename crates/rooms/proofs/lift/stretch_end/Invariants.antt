@@ -1,7 +1,5 @@
 use Prim.Native.Nat.{◌-◌, ◌≤◌, ◌<◌}
-use native.Mathlib.Omega.{arith}
-use borrow.Author.Rules.{rules}
-use Rattle.rooms.proofs.StretchLaws.{Same, same_one, same_more}
+use Rattle.rooms.proofs.StretchLaws.{Same}
 use Rattle.rooms.proofs.lift.stretch_end.Given as goal
 
 abbrev pub invariant-loop-end : goal.invariant-loop-end

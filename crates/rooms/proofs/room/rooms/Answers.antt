@@ -1,7 +1,6 @@
 use mathlib.Core.Path.{◌≡◌}
 use native.Mathlib.Omega.{arith}
 use lib.ListN.{length}
-use borrow.Author.Rules.{rules}
 use Rattle.rooms.proofs.RoomLaws.{new_covered, rooms_are}
 use Rattle.rooms.proofs.room.rooms.Goals as goal
 

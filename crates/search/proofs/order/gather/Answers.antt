@@ -1,10 +1,9 @@
-use Prim.Native.Nat.{◌-◌, ◌≤◌, ◌<◌}
+use Prim.Native.Nat.{◌≤◌, ◌<◌}
 use mathlib.Core.Path.{◌≡◌}
-use mathlib.Core.Logic.{⊎_elim}
 use native.Mathlib.Omega.{arith}
 use borrow.Author.Rules.{rules}
 use Rattle.lists.specs.Front.{at}
-use Rattle.search.proofs.GatherLaws.{Gathered, none_gathered, gathered_one, gathered_none, has_room, all_gathered}
+use Rattle.search.proofs.GatherLaws.{none_gathered, gathered_one, gathered_none, has_room, all_gathered}
 use Rattle.search.proofs.order.gather.Goals as goal
 use Rattle.search.proofs.order.gather.Goals.{then-is_between, else-is_between}
 
@@ -57,17 +56,16 @@ bounds-fired-v-in-loop-k-2 c =
     omega (arith, station)
 
 pub loop-k-preserved : goal.loop-k-preserved
-loop-k-preserved c =
-    (
-      search rules,
-      rw c.wide-v.ensures.0
-          (elim c.if-is_between.branch [
-            then-is_between w ↦
-              rw (w.order-is, w.place-is) (gathered_one _ _ _ _ _ _ c.requires c.loop-k.invariant.1 c.loop-k-test.true (rw c.wide-v.ensures.0 at (c.is_between.ensures.holds w.if-is_between.true)))
-            | else-is_between w ↦
-              rw (w.order-is, w.place-is) (gathered_none _ _ _ _ _ _ c.requires c.loop-k.invariant.1 c.loop-k-test.true (λ b. c.is_between.ensures.fails w.if-is_between.false (rw c.wide-v.ensures.0 b)))
-          ]),
-    )
+loop-k-preserved c = (
+  search rules,
+  rw c.wide-v.ensures.0
+      (elim c.if-is_between.branch [
+        | then-is_between w ↦
+            rw (w.order-is, w.place-is) (gathered_one _ _ _ _ _ _ c.requires c.loop-k.invariant.1 c.loop-k-test.true (rw c.wide-v.ensures.0 at (c.is_between.ensures.holds w.if-is_between.true)))
+        | else-is_between w ↦
+            rw (w.order-is, w.place-is) (gathered_none _ _ _ _ _ _ c.requires c.loop-k.invariant.1 c.loop-k-test.true (λ b. c.is_between.ensures.fails w.if-is_between.false (rw c.wide-v.ensures.0 b)))
+      ]),
+)
 
 pub returns : goal.returns
 returns c =

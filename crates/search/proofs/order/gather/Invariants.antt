@@ -1,10 +1,5 @@
-use Prim.Native.Nat.{◌-◌, ◌≤◌, ◌<◌}
-use mathlib.Core.Path.{◌≡◌}
-use mathlib.Core.Logic.{⊎_elim}
-use native.Mathlib.Omega.{arith}
-use borrow.Author.Rules.{rules}
-use Rattle.lists.specs.Front.{at}
-use Rattle.search.proofs.GatherLaws.{Gathered, none_gathered, gathered_one, gathered_none, has_room, all_gathered}
+use Prim.Native.Nat.{◌-◌, ◌≤◌}
+use Rattle.search.proofs.GatherLaws.{Gathered}
 use Rattle.search.proofs.order.gather.Given as goal
 
 abbrev pub invariant-loop-k : goal.invariant-loop-k

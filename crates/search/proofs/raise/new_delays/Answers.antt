@@ -1,10 +1,9 @@
-use Prim.Native.Nat.{◌-◌, ◌≤◌, ◌<◌}
+use Prim.Native.Nat.{◌<◌}
 use mathlib.Core.Path.{◌≡◌, refl}
 use native.Mathlib.Omega.{arith}
-use lib.ListN.{length, length-set}
+use lib.ListN.{length-set}
 use borrow.Author.Rules.{rules}
 use Rattle.lists.proofs.FilledLaws.{filled_none, filled_more}
-use Rattle.search.specs.Raise.{NewDelays}
 use Rattle.search.proofs.raise.new_delays.Goals as goal
 
 pub loop-e-init : goal.loop-e-init
@@ -25,14 +24,13 @@ shifted-requires c =
     rw (c.wide-u.ensures.0, c.wide-v.ensures.0, c.wide32-in-loop-e.ensures.0, c.wide32.ensures.0) (c.requires.fits c.loop-e.e c.loop-e-test.true)
 
 pub loop-e-preserved : goal.loop-e-preserved
-loop-e-preserved c =
-    (
-      search rules,
-      (
-        simp length-set c.loop-e.invariant.1.0,
-        filled_more _ (search rules) (rw (c.wide-u.ensures.0, c.wide-v.ensures.0, c.wide32-in-loop-e.ensures.0, c.wide32.ensures.0) at c.shifted.ensures) c.loop-e.invariant.1.1,
-      ),
-    )
+loop-e-preserved c = (
+  search rules,
+  (
+    simp length-set c.loop-e.invariant.1.0,
+    filled_more _ (search rules) (rw (c.wide-u.ensures.0, c.wide-v.ensures.0, c.wide32-in-loop-e.ensures.0, c.wide32.ensures.0) at c.shifted.ensures) c.loop-e.invariant.1.1,
+  ),
+)
 
 pub returns : goal.returns
 returns c =

@@ -1,10 +1,8 @@
-use Prim.Native.Nat.{◌-◌, ◌≤◌}
 use mathlib.Core.Path.{◌≡◌, refl}
 use native.Mathlib.Omega.{arith}
-use lib.ListN.{length, length-set}
+use lib.ListN.{length-set}
 use borrow.Author.Rules.{rules}
 use Rattle.lists.proofs.FilledLaws.{filled_none, filled_more}
-use Rattle.search.specs.Raise.{Raised}
 use Rattle.search.proofs.raise.raised.Goals as goal
 
 pub loop-v-init : goal.loop-v-init

@@ -1,9 +1,6 @@
 use Prim.Native.Nat.{◌-◌, ◌≤◌}
-use mathlib.Core.Path.{◌≡◌, refl}
-use native.Mathlib.Omega.{arith}
-use lib.ListN.{length, length-set}
-use borrow.Author.Rules.{rules}
-use Rattle.lists.proofs.FilledLaws.{filled_none, filled_more}
+use mathlib.Core.Path.{◌≡◌}
+use lib.ListN.{length}
 use Rattle.search.specs.Raise.{Raised}
 use Rattle.search.proofs.raise.raised.Given as goal
 

@@ -1,6 +1,5 @@
 use native.Mathlib.Nat.{mul-le-mul}
 use native.Mathlib.Omega.{arith}
-use borrow.Author.Rules.{rules}
 use Rattle.search.proofs.raise.shifted.Goals as goal
 
 pub overflow_mul-result : goal.overflow_mul-result

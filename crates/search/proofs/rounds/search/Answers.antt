@@ -1,9 +1,9 @@
-use Prim.Native.Nat.{◌-◌, ◌≤◌, ◌<◌}
+use Prim.Native.Nat.{◌<◌}
 use mathlib.Core.Path.{refl}
 use native.Mathlib.Omega.{arith}
 use borrow.Author.Rules.{rules}
 use Rattle.lists.proofs.TestLaws.{differ}
-use Rattle.search.proofs.UnderwayLaws.{Underway, begun, retiming_few, delays_small, readable, ended, delays_fit, late_small, cuttable, raised_once, gave_up}
+use Rattle.search.proofs.UnderwayLaws.{begun, retiming_few, delays_small, readable, ended, delays_fit, late_small, cuttable, raised_once, gave_up}
 use Rattle.search.proofs.rounds.search.Goals as goal
 
 pub bases-base-requires : goal.bases-base-requires
@@ -65,8 +65,7 @@ loop-rounds-smaller c =
 pub loop-rounds-preserved : goal.loop-rounds-preserved
 loop-rounds-preserved c =
     let few : c.loop-rounds.rounds < 256 = omega (arith, c.loop-rounds-test.true, c.requires.0.few, c.requires.0.chain.few) in
-    let a = c.requires in
-    (
+    let a = c.requires in (
       omega (arith, few),
       raised_once _ _ _ _ _ _ _ _ _ _ _ a.0 c.loop-rounds.invariant.1 a.1.0 c.loop-rounds.invariant.0 c.bases-base.ensures c.time_table-table.ensures c.latest_end-period.ensures c.late_counts-late.ensures c.if-period-target.false c.raised-retiming.ensures c.new_delays-current.ensures c.reorder-order.ensures,
     )

@@ -1,9 +1,5 @@
-use Prim.Native.Nat.{◌-◌, ◌≤◌, ◌<◌}
-use mathlib.Core.Path.{refl}
-use native.Mathlib.Omega.{arith}
-use borrow.Author.Rules.{rules}
-use Rattle.lists.proofs.TestLaws.{differ}
-use Rattle.search.proofs.UnderwayLaws.{Underway, begun, retiming_few, delays_small, readable, ended, delays_fit, late_small, cuttable, raised_once, gave_up}
+use Prim.Native.Nat.{◌-◌, ◌≤◌}
+use Rattle.search.proofs.UnderwayLaws.{Underway}
 use Rattle.search.proofs.rounds.search.Given as goal
 
 abbrev pub invariant-loop-rounds : goal.invariant-loop-rounds

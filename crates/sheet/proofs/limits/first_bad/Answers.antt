@@ -1,9 +1,6 @@
-use Prim.Native.Nat.{ℕ, ◌≤◌, ◌<◌, ◌-◌}
 use native.Mathlib.Omega.{arith}
-use borrow.Author.Tests.{not-true, not-false}
 use borrow.Author.Rules.{rules}
 use borrow.Author.Count.{below_none, below_more}
-use Rattle.sheet.specs.Limits.{ColumnsFit}
 use Rattle.sheet.proofs.limits.first_bad.Goals as goal
 
 pub loop-e-init : goal.loop-e-init

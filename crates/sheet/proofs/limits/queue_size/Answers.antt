@@ -1,4 +1,3 @@
-use borrow.Author.Rules.{rules}
 use Rattle.sheet.proofs.FormatLaws.{size_none}
 use Rattle.sheet.proofs.limits.queue_size.Goals as goal
 

@@ -2,7 +2,6 @@ use Prim.Native.Nat.{ℕ, ◌+◌, ◌≤◌}
 use mathlib.Core.Path.{◌∙◌, ap}
 use native.Mathlib.Omega.{arith}
 use lib.ListN.{length}
-use borrow.Author.Rules.{rules}
 use Rattle.little.specs.Little.{Apart}
 use Rattle.sheet.specs.Format.{stations, queue_start, queue_size}
 use Rattle.sheet.proofs.FormatLaws.{queues_apart, sheet_is}

@@ -1,7 +1,5 @@
 use mathlib.Core.Path.{refl}
 use native.Mathlib.Omega.{arith}
-use borrow.Author.Tests.{not-true, not-false}
-use borrow.Author.Rules.{rules}
 use Rattle.lists.proofs.TestLaws.{tells_true, tells_false}
 use Rattle.sheet.proofs.reader.header_fits.Goals as goal
 

@@ -1,7 +1,6 @@
 use mathlib.Core.Path.{refl}
 use native.Mathlib.Nat.{mul-le-mul_right}
 use native.Mathlib.Omega.{arith}
-use borrow.Author.Rules.{rules}
 use Rattle.lists.proofs.TestLaws.{tells_true, tells_false}
 use Rattle.sheet.proofs.FormatLaws.{part_same}
 use Rattle.sheet.proofs.reader.laid.Goals as goal

@@ -1,7 +1,6 @@
 use Prim.Native.Nat.{◌≤◌}
 use mathlib.Core.Path.{refl}
 use native.Mathlib.Omega.{arith}
-use borrow.Author.Rules.{rules}
 use Rattle.sheet.proofs.ReadLaws.{passes, few_queues, refused_header, refused_field, accepted}
 use Rattle.refusals.proofs.AnswerLaws.{refuses}
 use Rattle.sheet.specs.Read.{read_kind}

@@ -1,5 +1,4 @@
 use mathlib.Core.Path.{refl}
-use borrow.Author.Rules.{rules}
 use Rattle.lists.proofs.PutLaws.{wrote, wrote_more}
 use Rattle.little.proofs.LittleLaws.{length_four, length_two}
 use Rattle.sheet.specs.Format.{header_bytes}

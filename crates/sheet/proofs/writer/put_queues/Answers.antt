@@ -1,10 +1,6 @@
-use Prim.Native.Nat.{◌*◌, ◌≤◌, ◌-◌}
 use mathlib.Core.Path.{◌≡◌, refl}
 use native.Mathlib.Omega.{arith}
-use lib.ListN.{length}
 use borrow.Author.Rules.{rules}
-use Rattle.lists.specs.Put.{Wrote}
-use Rattle.lists.specs.Joined.{joined}
 use Rattle.lists.proofs.PutLaws.{wrote_none, wrote_part}
 use Rattle.sheet.specs.Format.{queue_bytes}
 use Rattle.sheet.proofs.FormatLaws.{length_queue}

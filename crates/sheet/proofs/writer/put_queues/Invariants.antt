@@ -1,13 +1,9 @@
 use Prim.Native.Nat.{◌*◌, ◌≤◌, ◌-◌}
-use mathlib.Core.Path.{◌≡◌, refl}
-use native.Mathlib.Omega.{arith}
+use mathlib.Core.Path.{◌≡◌}
 use lib.ListN.{length}
-use borrow.Author.Rules.{rules}
 use Rattle.lists.specs.Put.{Wrote}
 use Rattle.lists.specs.Joined.{joined}
-use Rattle.lists.proofs.PutLaws.{wrote_none, wrote_part}
 use Rattle.sheet.specs.Format.{queue_bytes}
-use Rattle.sheet.proofs.FormatLaws.{length_queue}
 use Rattle.sheet.proofs.writer.put_queues.Given as goal
 
 abbrev pub invariant-loop-e : goal.invariant-loop-e

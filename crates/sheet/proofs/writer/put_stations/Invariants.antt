@@ -1,13 +1,9 @@
 use Prim.Native.Nat.{◌*◌, ◌≤◌, ◌-◌}
-use mathlib.Core.Path.{◌≡◌, refl}
-use native.Mathlib.Omega.{arith}
+use mathlib.Core.Path.{◌≡◌}
 use lib.ListN.{length}
-use borrow.Author.Rules.{rules}
 use Rattle.lists.specs.Put.{Wrote}
 use Rattle.lists.specs.Joined.{joined}
-use Rattle.lists.proofs.PutLaws.{wrote_none, wrote_part}
 use Rattle.sheet.specs.Format.{station_bytes}
-use Rattle.sheet.proofs.FormatLaws.{length_station}
 use Rattle.sheet.proofs.writer.put_stations.Given as goal
 
 abbrev pub invariant-loop-i : goal.invariant-loop-i

@@ -7,7 +7,6 @@ use mir.Facts.{to_z-of_z}
 use Rattle.dataflow.specs.Move.{floor_div}
 use Rattle.signed.proofs.SignLaws.{below, above}
 use Rattle.signed.proofs.PartLaws.{floor_below, quotient_small, floor_above, floor_fits}
-use borrow.Author.Rules.{rules}
 use Rattle.signed.proofs.floor.floor_div.Goals as goal
 
 pub difference-requires : goal.difference-requires

@@ -4,7 +4,6 @@ use native.Mathlib.Omega.{arith}
 use mir.Facts.{to_z-of_z}
 use Rattle.signed.proofs.SignLaws.{below, above}
 use Rattle.signed.proofs.PartLaws.{rest_below, rest_above}
-use borrow.Author.Rules.{rules}
 use Rattle.signed.proofs.floor.floor_mod.Goals as goal
 
 pub overflow_sub-result-then-x-lt0 : goal.overflow_sub-result-then-x-lt0

@@ -2,7 +2,6 @@ use mir.Facts.{to_z_pos, to_z-neg}
 use mir.Syntax.{w32}
 use native.Mathlib.Omega.{arith}
 use Rattle.signed.proofs.PartLaws.{sub_below, sub_above}
-use borrow.Author.Rules.{rules}
 use Rattle.signed.proofs.parts.difference.Goals as goal
 
 pub returns-then-up-down : goal.returns-then-up-down

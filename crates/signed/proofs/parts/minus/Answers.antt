@@ -3,7 +3,6 @@ use mathlib.Core.Path.{◌≡◌}
 use mir.Facts.{to_z-neg}
 use mir.Syntax.{w32}
 use native.Mathlib.Omega.{arith}
-use borrow.Author.Rules.{rules}
 use Rattle.signed.proofs.parts.minus.Goals as goal
 
 pub returns : goal.returns

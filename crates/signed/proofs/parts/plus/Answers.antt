@@ -1,6 +1,5 @@
 use mir.Facts.{to_z_pos}
 use mir.Syntax.{w32}
-use borrow.Author.Rules.{rules}
 use Rattle.signed.proofs.parts.plus.Goals as goal
 
 pub returns : goal.returns

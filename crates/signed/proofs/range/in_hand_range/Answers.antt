@@ -7,7 +7,6 @@ use lib.Dec.{leb}
 use Rattle.lists.specs.Test.{Tells}
 use Rattle.lists.proofs.TestLaws.{tells_le}
 use Rattle.signed.proofs.PartLaws.{size_is}
-use borrow.Author.Rules.{rules}
 use Rattle.signed.proofs.range.in_hand_range.Goals as goal
 
 pub returns : goal.returns

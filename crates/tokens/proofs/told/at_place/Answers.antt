@@ -2,7 +2,6 @@ use Prim.Native.Nat.{◌-◌}
 use mathlib.Core.Path.{sym, ap}
 use native.Mathlib.Nat.{div-le_self, mod-le}
 use native.Mathlib.Omega.{arith}
-use borrow.Author.Rules.{rules}
 use Rattle.dataflow.proofs.OriginLaws.{token_initial}
 use Rattle.tokens.specs.Told.{told_as}
 use Rattle.tokens.proofs.TokenLaws.{token_later}

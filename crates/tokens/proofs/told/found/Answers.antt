@@ -1,7 +1,6 @@
 use Prim.Native.Nat.{ℕ}
 use mathlib.Core.Path.{ap, ◌∙◌}
 use native.Mathlib.Omega.{arith}
-use borrow.Author.Rules.{rules}
 use Rattle.dataflow.specs.Origin.{place_taken, token_at}
 use Rattle.tokens.specs.Told.{told_as}
 use Rattle.tokens.proofs.TokenLaws.{no_token, tells}

@@ -1,6 +1,5 @@
 use mathlib.Core.Path.{refl}
 use mathlib.Core.List.{[], ◌∷◌}
-use borrow.Author.Rules.{rules}
 use Rattle.checks.proofs.CheckLaws.{check_refuses, check_follows, ready_own}
 use Rattle.tokens.specs.Told.{origin_kind, token_row, Told}
 use Rattle.tokens.proofs.told.origin_of.Goals as goal
