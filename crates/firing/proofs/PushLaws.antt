@@ -17,6 +17,10 @@ use Rattle.chain.specs.Chain.{CountedChain}
 use Rattle.firing.specs.Thread.{FirstAt}
 use Rattle.firing.specs.Walk.{Gives, first_token, taker_entry, Hands, Given, Pushes}
 
+-- the copy that takes the token is one of the round's, and has its entry
+pub taker_within : (token consumed from count : ℕ) → 1 ≤ consumed → token < count * consumed → from + count ≤ 256 → from + token / consumed < 256
+taker_within token consumed from count some inside fits = let x = (div-lt_iff_lt-mul some).1 inside in omega (arith, x)
+
 module _ (m : ℕ) (source sink produced consumed delay q : List ℕ) (v copy finish : ℕ) (before : List ℕ) where
   abbrev token : ℕ → ℕ
   token e = first_token produced delay copy e

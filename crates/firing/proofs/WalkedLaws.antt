@@ -2,8 +2,13 @@
 use Prim.Native.Nat.{ℕ, suc, ◌+◌, ◌-◌, ◌*◌, ◌/◌, ◌≤◌, ◌<◌, ◌^◌}
 use mathlib.Core.Path.{◌≡◌, refl, sym, ap, ◌∙◌}
 use mathlib.Core.List.{List, ◌∷◌}
+<<<<<<< HEAD
 use mathlib.Core.Logic.{inl, inr, ⊎_elim}
 use native.Mathlib.Nat.{mul-le-mul_right, div-lt_iff_lt-mul}
+=======
+use mathlib.Core.Logic.{◌⊎◌, inl, inr, ⊎_elim}
+use native.Mathlib.Nat.{mul-le-mul_right, div-lt_iff_lt-mul, mod-eq_of_lt}
+>>>>>>> 174c785b706a0ce302264dcb5dffb914c3cbba3f
 use native.Mathlib.Omega.{arith}
 use native.Mathlib.Decide.{ℕ_discrete, dec_le}
 use lib.ListN.{length, set, take, drop, length-set, replicate}
@@ -184,8 +189,8 @@ module _ (n m : ℕ) (source sink produced consumed delay time q : List ℕ) (to
           reached e g from t i =
               let same = taker_once (D e) (at produced e.0) (at consumed e.0) (suc copy) g _ t (taker e) in
               let low : to e.0 < at q (at sink e.0) = omega (arith, same, i.high) in
-              let a = p.reached e.0 e.1 (record { from = from; inside = (div-lt_iff_lt-mul (c.chain.takes e.0 e.1)).0 low }) in
-              let x : sum (at sink e.0) (at q) + (g - 1) ≡ taker_entry sink produced consumed delay q copy e.0 = omega (arith, same) in
+              let a = p.reached e.0 e.1 (record { from = from; inside = omega (arith, (div-lt_iff_lt-mul (c.chain.takes e.0 e.1)).0 low) }) in
+              let x : sum (at sink e.0) (at q) + (g - 1) ≡ taker_entry sink produced consumed delay q copy e.0 = omega (arith, same, mod-eq_of_lt low) in
               omega (arith, a, finished, ap (at after) x)
 
           -- the copy with the entry that was given the finish is one of the round's, and a first taker

@@ -110,15 +110,16 @@ module _ (n m : ℕ) (source sink produced consumed delay time q : List ℕ) (to
               none_late x =
                   omega (arith, x.slow, (period_is n m source sink produced consumed current time q total c u.ordered t l).passed_by_none x.first x.first_copy _ _ x.sum x.path, h)
 
-          module _ {late : List ℕ} (k : LateCounts n q time target table late) where
-            lates : (v : ℕ) → HowMany (Late G D target v) (at q v) (at late v)
-            lates = late_is n m source sink produced consumed current time q total c u.ordered t target k
+          -- the copies that are late for any number of ticks: their raise is legal, and leaves an order
+          module _ {late : List ℕ} {ticks : ℕ} (k : LateCounts n q time ticks table late) where
+            lates : (v : ℕ) → HowMany (Late G D ticks v) (at q v) (at late v)
+            lates = late_is n m source sink produced consumed current time q total c u.ordered t ticks k
 
             late_few : (v : ℕ) → at late v ≤ at q v
             late_few v = few_of (lates v)
 
             legal : (e : Below m) → at produced e.0 * at late (at source e.0) ≤ D e + at consumed e.0 * at late (at sink e.0)
-            legal = raise_legal G W D target (at late) (lates_of G W D target (at late) lates)
+            legal = raise_legal G W D ticks (at late) (lates_of G W D ticks (at late) lates)
 
             pub delays_fit : DelaysFit m source sink produced consumed late current
             delays_fit = record {
@@ -169,11 +170,11 @@ module _ (n m : ℕ) (source sink produced consumed delay time q : List ℕ) (to
               whole = late_length (raised_by G (at late) D) (λ e. omega (arith, legal e));
             }
 
-            -- one round more
-            pub raised_once : target < period → {retiming' current' order' : List ℕ} → Raised n late retiming retiming' → NewDelays m source sink produced consumed late current current'
+            -- one round more, with those that are late for the target
+            pub raised_once : ticks ≡ target → target < period → {retiming' current' order' : List ℕ} → Raised n late retiming retiming' → NewDelays m source sink produced consumed late current current'
                 → Reordered q late total order order' → Underway retiming' current' order' (rounds + 1)
-            raised_once h {retiming'} {current'} {order'} r x o = record {
-              searched = rw add-one (raise (at late) u.searched (rw (retimed_is G d (at retiming) D u.retimed) lates) some rise);
+            raised_once same h {retiming'} {current'} {order'} r x o = record {
+              searched = rw add-one (raise (at late) u.searched (rw (retimed_is G d (at retiming) D u.retimed) (rw same at lates)) some rise);
               retimed = λ e.
                   omega (arith, x.is e.0 e.1, u.retimed e, ap (λ (y : ℕ). at produced e.0 * y) (rise (at source e.0)), ap (λ (y : ℕ). at consumed e.0 * y) (rise (at sink e.0)));
               rest = x.rest;
@@ -197,7 +198,7 @@ module _ (n m : ℕ) (source sink produced consumed delay time q : List ℕ) (to
                 some : (v : ℕ) × (1 ≤ at late v)
                 some =
                     let y = l.reached in
-                    (y.0, many_last (k.is y.0 y.1) (c.positive y.0 y.1) (omega (arith, y.2)))
+                    (y.0, many_last (k.is y.0 y.1) (c.positive y.0 y.1) (omega (arith, y.2, same)))
 
     -- N rounds or more raised something
     pub gave_up : {retiming current order list : List ℕ} {rounds : ℕ} → Ordered n m source sink produced consumed delay time q total list → Underway retiming current order rounds → total ≤ rounds

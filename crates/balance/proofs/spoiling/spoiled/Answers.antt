@@ -48,7 +48,7 @@ pub returns-then-not-agrees : goal.returns-then-not-agrees
 returns-then-not-agrees c =
     let a = c.args in
     record {
-      within = c.loop-e.invariant.1;
+      within = omega (arith, c.loop-e.invariant.1);
       below = λ k h. all_agree _ _ _ _ _ _ c.requires.0 _ c.reach-tree.ensures k (λ j l b. c.loop-e.invariant.0 j (omega arith));
       fails = λ h. none_balances _ _ _ _ _ _ c.requires.0 _ c.reach-tree.ensures _ h (agrees_by a.source.now a.sink.now a.produced.now a.consumed.now c.reach-tree.result c.loop-e.e c.if-not-agrees.true c.wide-u.ensures.0 c.wide-v.ensures.0 c.wide.ensures.0 c.wide-in-loop-e.ensures.0 c.agrees.ensures);
     }

@@ -37,8 +37,8 @@ short-requires c =
 
 pub stations-preserved : goal.stations-preserved
 stations-preserved c =
-    let told : let a = c.args in let e = c.loop-e.e in let v = c.stations.later in Tells c.short.result (at a.delay.now e + at a.fired.now (at a.source.now e) * at a.produced.now e < (at a.fired.now v + 1) * at a.consumed.now e) = rw (c.wide-u.ensures.0, c.wide32.ensures.0, c.wide32-in-loop-e.ensures.0) at c.short.ensures in
-    (search rules, below_more _ _ c.stations.invariant.1 (λ can. omega (arith, can.fed c.loop-e.e (omega arith) (c.loop-e.invariant.goes (omega arith)), (told).holds c.if-short.true)))
+    let told = rw (c.wide-u.ensures.0, c.wide32.ensures.0, c.wide32-in-loop-e.ensures.0) at c.short.ensures in
+    (search rules, below_more _ _ c.stations.invariant.1 (λ can. omega (arith, can.fed c.loop-e.e (omega arith) (c.loop-e.invariant.goes (omega arith)), told.holds c.if-short.true)))
 
 pub loop-e-smaller : goal.loop-e-smaller
 loop-e-smaller c =
@@ -46,10 +46,10 @@ loop-e-smaller c =
 
 pub loop-e-preserved : goal.loop-e-preserved
 loop-e-preserved c =
-    let told : let a = c.args in let e = c.loop-e.e in let v = c.stations.later in Tells c.short.result (at a.delay.now e + at a.fired.now (at a.source.now e) * at a.produced.now e < (at a.fired.now v + 1) * at a.consumed.now e) = rw (c.wide-u.ensures.0, c.wide32.ensures.0, c.wide32-in-loop-e.ensures.0) at c.short.ensures in
+    let told = rw (c.wide-u.ensures.0, c.wide32.ensures.0, c.wide32-in-loop-e.ensures.0) at c.short.ensures in
     let e = c.loop-e.e in
     let h = c.loop-e-test.true in
-    fed_more _ _ _ _ _ _ _ _ c.loop-e.invariant h (omega (arith, (told).fails c.if-short.false))
+    fed_more _ _ _ _ _ _ _ _ c.loop-e.invariant h (omega (arith, told.fails c.if-short.false))
     (rw c.wide-e-in-loop-e.ensures.0 (c.requires.1.0.more e h))
 
 pub returns-then-n-v : goal.returns-then-n-v

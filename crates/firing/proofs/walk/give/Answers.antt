@@ -1,7 +1,9 @@
-use Prim.Native.Nat.{◌/◌, ◌≤◌, ◌<◌}
+use Prim.Native.Nat.{◌≤◌}
 use mathlib.Core.Path.{refl}
-use native.Mathlib.Nat.{mul-le-mul, div-lt_iff_lt-mul}
+use native.Mathlib.Nat.{mul-le-mul}
 use native.Mathlib.Omega.{arith}
+use borrow.Author.Rules.{rules}
+use Rattle.firing.proofs.PushLaws.{taker_within}
 use Rattle.firing.proofs.walk.give.Goals as goal
 
 pub overflow_mul-count : goal.overflow_mul-count
@@ -9,33 +11,27 @@ overflow_mul-count c = let few : c.args.count ≤ 256 = omega (arith, c.requires
 
 pub overflow_add-entry : goal.overflow_add-entry
 overflow_add-entry c =
-    let taker : c.args.token / c.args.consumed < c.args.count = (div-lt_iff_lt-mul c.requires.1.1.0).1 c.if-token-count.true in
-    omega (arith, taker, c.requires.1.0)
+    omega (arith, taker_within c.args.token c.args.consumed c.args.from c.args.count c.requires.1.1.0 c.if-token-count.true c.requires.1.0)
 
 pub overflow_cast-entry : goal.overflow_cast-entry
 overflow_cast-entry c =
-    let taker : c.args.token / c.args.consumed < c.args.count = (div-lt_iff_lt-mul c.requires.1.1.0).1 c.if-token-count.true in
-    omega (arith, taker, c.requires.1.0)
+    omega (arith, taker_within c.args.token c.args.consumed c.args.from c.args.count c.requires.1.1.0 c.if-token-count.true c.requires.1.0)
 
 pub offset_bounds-table-entry : goal.offset_bounds-table-entry
 offset_bounds-table-entry c =
-    let taker : c.args.token / c.args.consumed < c.args.count = (div-lt_iff_lt-mul c.requires.1.1.0).1 c.if-token-count.true in
-    omega (arith, taker, c.requires.1.0)
+    omega (arith, taker_within c.args.token c.args.consumed c.args.from c.args.count c.requires.1.1.0 c.if-token-count.true c.requires.1.0)
 
 pub bounds-table-entry : goal.bounds-table-entry
 bounds-table-entry c =
-    let taker : c.args.token / c.args.consumed < c.args.count = (div-lt_iff_lt-mul c.requires.1.1.0).1 c.if-token-count.true in
-    omega (arith, taker, c.requires.1.0)
+    omega (arith, taker_within c.args.token c.args.consumed c.args.from c.args.count c.requires.1.1.0 c.if-token-count.true c.requires.1.0)
 
 pub offset_bounds-table-entry-then-table-entry : goal.offset_bounds-table-entry-then-table-entry
 offset_bounds-table-entry-then-table-entry c =
-    let taker : c.args.token / c.args.consumed < c.args.count = (div-lt_iff_lt-mul c.requires.1.1.0).1 c.if-token-count.true in
-    omega (arith, taker, c.requires.1.0)
+    omega (arith, taker_within c.args.token c.args.consumed c.args.from c.args.count c.requires.1.1.0 c.if-token-count.true c.requires.1.0)
 
 pub bounds-table-entry-then-table-entry : goal.bounds-table-entry-then-table-entry
 bounds-table-entry-then-table-entry c =
-    let taker : c.args.token / c.args.consumed < c.args.count = (div-lt_iff_lt-mul c.requires.1.1.0).1 c.if-token-count.true in
-    omega (arith, taker, c.requires.1.0)
+    omega (arith, taker_within c.args.token c.args.consumed c.args.from c.args.count c.requires.1.1.0 c.if-token-count.true c.requires.1.0)
 
 pub returns-then-table-entry : goal.returns-then-table-entry
 returns-then-table-entry c = record { given = λ l a. refl; beyond = λ l. absurd (omega (arith, c.if-token-count.true)); as_late = λ l. absurd (omega (arith, c.if-table-entry.true)) }
