@@ -2,13 +2,8 @@
 use Prim.Native.Nat.{ℕ, suc, ◌+◌, ◌-◌, ◌*◌, ◌/◌, ◌≤◌, ◌<◌, ◌^◌}
 use mathlib.Core.Path.{◌≡◌, refl, sym, ap, ◌∙◌}
 use mathlib.Core.List.{List, ◌∷◌}
-<<<<<<< HEAD
 use mathlib.Core.Logic.{inl, inr, ⊎_elim}
-use native.Mathlib.Nat.{mul-le-mul_right, div-lt_iff_lt-mul}
-=======
-use mathlib.Core.Logic.{◌⊎◌, inl, inr, ⊎_elim}
 use native.Mathlib.Nat.{mul-le-mul_right, div-lt_iff_lt-mul, mod-eq_of_lt}
->>>>>>> 174c785b706a0ce302264dcb5dffb914c3cbba3f
 use native.Mathlib.Omega.{arith}
 use native.Mathlib.Decide.{ℕ_discrete, dec_le}
 use lib.ListN.{length, set, take, drop, length-set, replicate}
