@@ -1,9 +1,8 @@
-use Prim.Native.Nat.{◌+◌, ◌*◌, ◌<◌}
+use Prim.Native.Nat.{◌<◌}
 use native.Mathlib.Omega.{arith}
 use borrow.Author.Rules.{rules}
 use borrow.Author.Count.{below_none, below_more}
 use Rattle.lists.specs.Front.{at}
-use Rattle.lists.specs.Test.{Tells}
 use Rattle.firing.proofs.ScanLaws.{fed_none, fed_more, fed_all}
 use Rattle.firing.proofs.scan.ready.Goals as goal
 

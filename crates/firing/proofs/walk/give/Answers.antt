@@ -2,7 +2,6 @@ use Prim.Native.Nat.{◌≤◌}
 use mathlib.Core.Path.{refl}
 use native.Mathlib.Nat.{mul-le-mul}
 use native.Mathlib.Omega.{arith}
-use borrow.Author.Rules.{rules}
 use Rattle.firing.proofs.PushLaws.{taker_within}
 use Rattle.firing.proofs.walk.give.Goals as goal
 
