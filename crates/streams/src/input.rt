@@ -1,7 +1,7 @@
-// Bytes from standard input.
-ghost use Rattle.io.specs.Counts.{IsPrefixLen};
+// Bytes from an input.
+ghost use Rattle.std.specs.Prelude.{◌≡◌, ◌≤◌, length, take};
 
-use libc::STDIN_FILENO;
+use std::io::Read;
 
 // How many bytes stand at the start of a list now, and whether a read failed behind them. Where none failed and the list isn't full, the input has ended.
 #[derive(Drop)]
@@ -11,26 +11,22 @@ pub struct Taken {
 }
 
 // Reads until the list is full, the input ends or a read fails.
-pub fn fill(space: &mut [u8]) -> Taken
-    ensures { IsPrefixLen result.count space.new }
+pub fn fill(input: &mut impl Read, space: &mut [u8]) -> Taken
+    ensures within { result.count ≤ length space.new }
+    ensures front { result.count ≡ length (take result.count space.new) }
 {
     let mut done = 0;
     while done < space.len() {
-        let got = libc::read(STDIN_FILENO, &mut space[done..]);
-        if got < 0 {
-            return Taken {
-                count: done,
-                failed: true,
-            };
+        match input.read(&mut space[done..]) {
+            Ok(0) => break,
+            Ok(more) => done += more,
+            Err(_) => {
+                return Taken {
+                    count: done,
+                    failed: true,
+                };
+            }
         }
-        let more = io::count(got, &space[done..]);
-        if more == 0 {
-            return Taken {
-                count: done,
-                failed: false,
-            };
-        }
-        done += more;
     }
     Taken {
         count: done,

@@ -1,4 +1,6 @@
 // What a program has besides its output: standard input, and how it ends.
+#![tactic(auto)]
+
 mod ending;
 mod input;
 
