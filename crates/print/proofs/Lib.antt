@@ -1,3 +1,2 @@
-pub mod GatheringLaws
 pub mod SpelledLaws
 pub mod Unique

@@ -2,8 +2,6 @@
 ghost use Rattle.std.specs.Prelude.{◌≡◌, false, length};
 ghost use Rattle.print.specs.Gathering.{Flushed, RoomFor, Gathers};
 
-use libc::STDOUT_FILENO;
-
 // How many bytes at the start of the page are still to be written, and whether every write before them took all that it was given. Where one
 // didn't, nothing more is gathered and nothing more is written: what stands on standard output is the beginning of the text.
 #[derive(Drop)]
@@ -29,7 +27,7 @@ fn cut() -> Gathered
 }
 
 // Writes what the page holds.
-pub fn flush(page: &[u8], out: Gathered) -> Gathered
+pub fn flush(rt: &impl Print, page: &[u8], out: Gathered) -> Gathered
     ensures { Flushed out result }
 {
     let held = out.held;
@@ -41,12 +39,12 @@ pub fn flush(page: &[u8], out: Gathered) -> Gathered
     }
     Gathered {
         held: 0,
-        whole: io::write_all(STDOUT_FILENO, &page[..held]),
+        whole: rt.write_all(&page[..held]).is_ok(),
     }
 }
 
 // Room for n more bytes in the page, which is written first where it is too full.
-fn room(page: &[u8], out: Gathered, n: usize) -> Gathered
+fn room(rt: &impl Print, page: &[u8], out: Gathered, n: usize) -> Gathered
     ensures { RoomFor (length page.now) n out result }
 {
     let size = page.len();
@@ -56,7 +54,7 @@ fn room(page: &[u8], out: Gathered, n: usize) -> Gathered
     if out.held <= size - n {
         return out;
     }
-    let empty = flush(page, out);
+    let empty = flush(rt, page, out);
     Gathered {
         held: 0,
         whole: empty.whole,
@@ -64,17 +62,18 @@ fn room(page: &[u8], out: Gathered, n: usize) -> Gathered
 }
 
 // Gathers a text behind what the page holds. A text is no longer than a page.
-pub fn text(page: &mut [u8], out: Gathered, s: &[u8]) -> Gathered
+pub fn text(rt: &impl Print, page: &mut [u8], out: Gathered, s: &[u8]) -> Gathered
     ensures { Gathers page.old out s.now page.new result }
 {
-    let ready = room(page, out, s.len());
+    let ready = room(rt, page, out, s.len());
     let held = ready.held;
     if !ready.whole {
         return cut();
     }
-    bytes::copy(s, &mut page[held..]);
+    let end = held + s.len();
+    page[held..end].copy_from_slice(s);
     Gathered {
-        held: held + s.len(),
+        held: end,
         whole: true,
     }
 }

@@ -1,4 +1,6 @@
 // Lines on standard output.
+#![tactic(auto)]
+
 mod gathering;
 mod lines;
 mod words;
