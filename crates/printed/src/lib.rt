@@ -1,115 +1,88 @@
 // The printed plan.
-ghost use Rattle.std.specs.Prelude.{◌≡◌, ◌≤◌};
+#![tactic(auto)]
+
+ghost use Rattle.std.specs.Prelude.{◌≡◌, ◌≤◌, ◌<◌};
 ghost use Rattle.planner.specs.Fits.{Fits};
 
 use planner::Planning;
 use print::{Gathered, number, pair, text};
 
-fn firing(page: &mut [u8], out: Gathered, station: u16) -> Gathered {
-    number(page, out, b" ", station as u64)
-}
-
-fn time(page: &mut [u8], out: Gathered, start: u32) -> Gathered {
-    number(page, out, b" ", start as u64)
-}
-
 // A word and the entries of a list behind it; an empty list prints its word alone.
-pub fn list(page: &mut [u8], out: Gathered, word: &[u8], entries: &[u16]) -> Gathered {
-    let mut line = text(page, out, word);
-    for k in 0..entries.len() {
-        line = firing(page, line, entries[k]);
-    }
-    text(page, line, b"\n")
-}
-
-fn times(page: &mut [u8], out: Gathered, entries: &[u32]) -> Gathered {
-    let mut line = text(page, out, b"times");
-    for k in 0..entries.len() {
-        line = time(page, line, entries[k]);
-    }
-    text(page, line, b"\n")
-}
-
-fn station(
+pub fn list(
+    rt: &impl Print,
     page: &mut [u8],
     out: Gathered,
-    v: usize,
-    tag: u16,
-    count: u32,
-    retime: u32,
-    start: u32,
+    word: &[u8],
+    entries: &[u16],
 ) -> Gathered {
-    let mut line = pair(page, out, b"station ", v as u64, b" tag ", tag as u64);
-    line = pair(
-        page,
-        line,
-        b" count ",
-        count as u64,
-        b" retime ",
-        retime as u64,
-    );
-    line = number(page, line, b" start ", start as u64);
-    text(page, line, b"\n")
+    let mut line = text(rt, page, out, word);
+    for station in entries {
+        line = number(rt, page, line, b" ", *station as u64);
+    }
+    text(rt, page, line, b"\n")
 }
 
-fn stations(
-    page: &mut [u8],
-    out: Gathered,
-    n: usize,
-    tag: &[u16; 32],
-    q: &[u32; 32],
-    retiming: &[u32; 32],
-    start: &[u32; 32],
-) -> Gathered
-    requires { n ≤ 32 }
+fn times(rt: &impl Print, page: &mut [u8], out: Gathered, entries: &[u32]) -> Gathered {
+    let mut line = text(rt, page, out, b"times");
+    for start in entries {
+        line = number(rt, page, line, b" ", *start as u64);
+    }
+    text(rt, page, line, b"\n")
+}
+
+fn station(rt: &impl Print, page: &mut [u8], out: Gathered, p: &Planning, v: usize) -> Gathered
+    requires { v < 32 }
+{
+    let tag = p.tag[v] as u64;
+    let count = p.q[v] as u64;
+    let retime = p.retiming[v] as u64;
+    let start = p.start[v] as u64;
+    let mut line = pair(rt, page, out, b"station ", v as u64, b" tag ", tag);
+    line = pair(rt, page, line, b" count ", count, b" retime ", retime);
+    line = number(rt, page, line, b" start ", start);
+    text(rt, page, line, b"\n")
+}
+
+fn stations(rt: &impl Print, page: &mut [u8], out: Gathered, p: &Planning) -> Gathered
+    requires { p.now.n ≤ 32 }
 {
     let mut lines = out;
-    for v in 0..n {
-        lines = station(page, lines, v, tag[v], q[v], retiming[v], start[v]);
+    for v in 0..p.n {
+        lines = station(rt, page, lines, p, v);
     }
     lines
 }
 
-fn queue(page: &mut [u8], out: Gathered, e: usize, delay: u32, room: u32) -> Gathered {
-    let mut line = number(page, out, b"queue ", e as u64);
-    line = number(page, line, b" delay ", delay as u64);
-    line = number(page, line, b" room ", room as u64);
-    text(page, line, b"\n")
+fn queue(rt: &impl Print, page: &mut [u8], out: Gathered, p: &Planning, e: usize) -> Gathered
+    requires { e < 64 }
+{
+    let delay = p.delay[e] as u64;
+    let room = p.room[e] as u64;
+    let mut line = number(rt, page, out, b"queue ", e as u64);
+    line = pair(rt, page, line, b" delay ", delay, b" room ", room);
+    text(rt, page, line, b"\n")
 }
 
-fn queues(page: &mut [u8], out: Gathered, m: usize, delay: &[u32; 64], room: &[u32; 64]) -> Gathered
-    requires { m ≤ 64 }
+fn queues(rt: &impl Print, page: &mut [u8], out: Gathered, p: &Planning) -> Gathered
+    requires { p.now.m ≤ 64 }
 {
     let mut lines = out;
-    for e in 0..m {
-        lines = queue(page, lines, e, delay[e], room[e]);
+    for e in 0..p.m {
+        lines = queue(rt, page, lines, p, e);
     }
     lines
 }
 
-fn first(page: &mut [u8], out: Gathered, period: u32, rounds: usize, back: u32) -> Gathered {
-    let mut line = number(page, out, b"accepted period ", period as u64);
-    line = number(page, line, b" rounds ", rounds as u64);
-    line = number(page, line, b" back ", back as u64);
-    text(page, line, b"\n")
-}
-
-fn numbers(page: &mut [u8], out: Gathered, p: Planning) -> Gathered
-    requires { (p.n ≤ 32) × (p.m ≤ 64) }
-{
-    let tag = p.tag;
-    let q = p.q;
-    let retiming = p.retiming;
-    let start = p.start;
-    let delay = p.delay;
-    let room = p.room;
-    let mut lines = first(page, out, p.period, p.rounds, p.back);
-    lines = stations(page, lines, p.n, &tag, &q, &retiming, &start);
-    queues(page, lines, p.m, &delay, &room)
+fn first(rt: &impl Print, page: &mut [u8], out: Gathered, p: &Planning) -> Gathered {
+    let mut line = number(rt, page, out, b"accepted period ", p.period as u64);
+    line = number(rt, page, line, b" rounds ", p.rounds as u64);
+    line = number(rt, page, line, b" back ", p.back as u64);
+    text(rt, page, line, b"\n")
 }
 
 // The lines of a plan, or the one line of a refusal.
 pub fn plan(
+    rt: &impl Print,
     page: &mut [u8],
     out: Gathered,
     p: Planning,
@@ -120,10 +93,12 @@ pub fn plan(
     requires { p.number ≡ 0 → Fits p start.now round.now table.now }
 {
     if p.number != 0 {
-        return print::refusal(page, out, p.number, p.place);
+        return print::refusal(rt, page, out, p.number, p.place);
     }
-    let mut lines = numbers(page, out, p);
-    lines = list(page, lines, b"start", &start[..p.starts]);
-    lines = list(page, lines, b"round", &round[..p.total]);
-    times(page, lines, &table[..p.total])
+    let mut lines = first(rt, page, out, &p);
+    lines = stations(rt, page, lines, &p);
+    lines = queues(rt, page, lines, &p);
+    lines = list(rt, page, lines, b"start", &start[..p.starts]);
+    lines = list(rt, page, lines, b"round", &round[..p.total]);
+    times(rt, page, lines, &table[..p.total])
 }
