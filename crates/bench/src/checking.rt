@@ -16,28 +16,28 @@ fn entries(body: &[u8], k: usize) -> [i32; 1000]
     list
 }
 
-fn show(page: &mut [u8], out: Gathered, sheet: &[u8], hand: &[i32]) -> Gathered {
+fn show(rt: &impl Print, page: &mut [u8], out: Gathered, sheet: &[u8], hand: &[i32]) -> Gathered {
     let tried = hand::hand_period(sheet, hand);
     if tried.number != 0 {
-        return print::refusal(page, out, tried.number, tried.place);
+        return print::refusal(rt, page, out, tried.number, tried.place);
     }
-    let line = print::number(page, out, b"hand period ", tried.period as u64);
-    print::text(page, line, b"\n")
+    let line = print::number(rt, page, out, b"hand period ", tried.period as u64);
+    print::text(rt, page, line, b"\n")
 }
 
 // At most 1,000 entries behind their number, and a sheet.
-pub(crate) fn answer(page: &mut [u8], out: Gathered, body: &[u8]) -> Gathered {
+pub(crate) fn answer(rt: &impl Print, page: &mut [u8], out: Gathered, body: &[u8]) -> Gathered {
     if body.len() < 2 {
-        return malformed(page, out);
+        return malformed(rt, page, out);
     }
     let k = little::u16_at(body, 0) as usize;
     if 1000 < k {
-        return malformed(page, out);
+        return malformed(rt, page, out);
     }
     let end = 2 + 4 * k;
     if body.len() < end {
-        return malformed(page, out);
+        return malformed(rt, page, out);
     }
     let list = entries(body, k);
-    show(page, out, &body[end..], &list[..k])
+    show(rt, page, out, &body[end..], &list[..k])
 }

@@ -20,13 +20,21 @@ fn stations(body: &[u8], from: usize, count: usize) -> [u16; 1000]
     list
 }
 
-fn show(page: &mut [u8], out: Gathered, body: &[u8], a: usize, b: usize) -> Gathered
+fn show(
+    rt: &impl Print,
+    page: &mut [u8],
+    out: Gathered,
+    body: &[u8],
+    a: usize,
+    b: usize,
+) -> Gathered
     requires { (a ≤ 1000) × ((b ≤ 1000) × (12 + 2 * a + 2 * b ≤ length body.now)) }
 {
     let done = wide(little::u32_at(body, 0)) + wide(little::u32_at(body, 4)) * 4294967296;
     let start = stations(body, 10, a);
     let round = stations(body, 12 + 2 * a, b);
     printed::list(
+        rt,
         page,
         out,
         b"part",
@@ -35,23 +43,23 @@ fn show(page: &mut [u8], out: Gathered, body: &[u8], a: usize, b: usize) -> Gath
 }
 
 // The firings done and two lists, each behind its length of at most 1,000.
-pub(crate) fn answer(page: &mut [u8], out: Gathered, body: &[u8]) -> Gathered {
+pub(crate) fn answer(rt: &impl Print, page: &mut [u8], out: Gathered, body: &[u8]) -> Gathered {
     if body.len() < 10 {
-        return malformed(page, out);
+        return malformed(rt, page, out);
     }
     let a = little::u16_at(body, 8) as usize;
     if 1000 < a {
-        return malformed(page, out);
+        return malformed(rt, page, out);
     }
     if body.len() < 12 + 2 * a {
-        return malformed(page, out);
+        return malformed(rt, page, out);
     }
     let b = little::u16_at(body, 10 + 2 * a) as usize;
     if 1000 < b {
-        return malformed(page, out);
+        return malformed(rt, page, out);
     }
     if body.len() != 12 + 2 * a + 2 * b {
-        return malformed(page, out);
+        return malformed(rt, page, out);
     }
-    show(page, out, body, a, b)
+    show(rt, page, out, body, a, b)
 }

@@ -25,14 +25,22 @@ fn kept_times(buffer: &[u32]) -> usize {
     buffer.len()
 }
 
-fn kept(page: &mut [u8], out: Gathered, start: &[u16], round: &[u16], times: &[u32]) -> Gathered {
-    let mut line = print::number(page, out, b"kept ", kept_firings(start) as u64);
-    line = print::number(page, line, b" ", kept_firings(round) as u64);
-    line = print::number(page, line, b" ", kept_times(times) as u64);
-    print::text(page, line, b"\n")
+fn kept(
+    rt: &impl Print,
+    page: &mut [u8],
+    out: Gathered,
+    start: &[u16],
+    round: &[u16],
+    times: &[u32],
+) -> Gathered {
+    let mut line = print::number(rt, page, out, b"kept ", kept_firings(start) as u64);
+    line = print::number(rt, page, line, b" ", kept_firings(round) as u64);
+    line = print::number(rt, page, line, b" ", kept_times(times) as u64);
+    print::text(rt, page, line, b"\n")
 }
 
 fn show(
+    rt: &impl Print,
     page: &mut [u8],
     out: Gathered,
     sheet: &[u8],
@@ -41,31 +49,32 @@ fn show(
     times: &mut [u32],
 ) -> Gathered {
     let planned = planner::plan(sheet, start, round, times);
-    let lines = printed::plan(page, out, planned, start, round, times);
-    kept(page, lines, start, round, times)
+    let lines = printed::plan(rt, page, out, planned, start, round, times);
+    kept(rt, page, lines, start, round, times)
 }
 
 // Three lengths, at most those that no plan outgrows, and a sheet.
-pub(crate) fn answer(page: &mut [u8], out: Gathered, body: &[u8]) -> Gathered {
+pub(crate) fn answer(rt: &impl Print, page: &mut [u8], out: Gathered, body: &[u8]) -> Gathered {
     if body.len() < 12 {
-        return malformed(page, out);
+        return malformed(rt, page, out);
     }
     let starts = little::u32_at(body, 0) as usize;
     if 65536 < starts {
-        return malformed(page, out);
+        return malformed(rt, page, out);
     }
     let rounds = little::u32_at(body, 4) as usize;
     if 256 < rounds {
-        return malformed(page, out);
+        return malformed(rt, page, out);
     }
     let tables = little::u32_at(body, 8) as usize;
     if 256 < tables {
-        return malformed(page, out);
+        return malformed(rt, page, out);
     }
     let mut start = [65535u16; 65536];
     let mut round = [65535u16; 256];
     let mut times = [4294967295u32; 256];
     show(
+        rt,
         page,
         out,
         &body[12..],

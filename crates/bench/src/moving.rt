@@ -3,22 +3,22 @@ use crate::malformed;
 use crate::signs::{i32_at, print_signed};
 use print::Gathered;
 
-fn show(page: &mut [u8], out: Gathered, moved: moves::Moved) -> Gathered {
+fn show(rt: &impl Print, page: &mut [u8], out: Gathered, moved: moves::Moved) -> Gathered {
     if moved.number != 0 {
-        return print::refusal(page, out, moved.number, moved.place);
+        return print::refusal(rt, page, out, moved.number, moved.place);
     }
-    let mut line = print::number(page, out, b"move copy ", moved.copy as u64);
-    line = print_signed(page, line, b" shift ", moved.shift);
-    print::text(page, line, b"\n")
+    let mut line = print::number(rt, page, out, b"move copy ", moved.copy as u64);
+    line = print_signed(rt, page, line, b" shift ", moved.shift);
+    print::text(rt, page, line, b"\n")
 }
 
 // Station, copy and r, and a sheet.
-pub(crate) fn answer(page: &mut [u8], out: Gathered, body: &[u8]) -> Gathered {
+pub(crate) fn answer(rt: &impl Print, page: &mut [u8], out: Gathered, body: &[u8]) -> Gathered {
     if body.len() < 8 {
-        return malformed(page, out);
+        return malformed(rt, page, out);
     }
     let station = little::u16_at(body, 0) as usize;
     let copy = little::u16_at(body, 2) as u32;
     let moved = moves::one_move(&body[8..], station, copy, i32_at(body, 4));
-    show(page, out, moved)
+    show(rt, page, out, moved)
 }

@@ -3,37 +3,65 @@ ghost use Rattle.std.specs.Prelude.{◌≤◌};
 
 use print::{Gathered, number, pair, text};
 
-fn station(page: &mut [u8], out: Gathered, i: usize, tag: u16, time: u16) -> Gathered {
-    let mut line = number(page, out, b"station ", i as u64);
-    line = number(page, line, b" tag ", tag as u64);
-    line = number(page, line, b" time ", time as u64);
-    text(page, line, b"\n")
+fn station(
+    rt: &impl Print,
+    page: &mut [u8],
+    out: Gathered,
+    i: usize,
+    tag: u16,
+    time: u16,
+) -> Gathered {
+    let mut line = number(rt, page, out, b"station ", i as u64);
+    line = number(rt, page, line, b" tag ", tag as u64);
+    line = number(rt, page, line, b" time ", time as u64);
+    text(rt, page, line, b"\n")
 }
 
-fn stations(page: &mut [u8], out: Gathered, n: usize, tag: &[u16; 32], time: &[u16; 32]) -> Gathered
+fn stations(
+    rt: &impl Print,
+    page: &mut [u8],
+    out: Gathered,
+    n: usize,
+    tag: &[u16; 32],
+    time: &[u16; 32],
+) -> Gathered
     requires { n ≤ 32 }
 {
     let mut lines = out;
     for i in 0..n {
-        lines = station(page, lines, i, tag[i], time[i]);
+        lines = station(rt, page, lines, i, tag[i], time[i]);
     }
     lines
 }
 
-fn ends(page: &mut [u8], out: Gathered, e: usize, source: u16, sink: u16) -> Gathered {
-    let mut line = number(page, out, b"queue ", e as u64);
-    line = number(page, line, b" source ", source as u64);
-    number(page, line, b" sink ", sink as u64)
+fn ends(
+    rt: &impl Print,
+    page: &mut [u8],
+    out: Gathered,
+    e: usize,
+    source: u16,
+    sink: u16,
+) -> Gathered {
+    let mut line = number(rt, page, out, b"queue ", e as u64);
+    line = number(rt, page, line, b" source ", source as u64);
+    number(rt, page, line, b" sink ", sink as u64)
 }
 
-fn rates(page: &mut [u8], out: Gathered, produced: u16, consumed: u16, delay: u16) -> Gathered {
-    let mut line = number(page, out, b" produced ", produced as u64);
-    line = number(page, line, b" consumed ", consumed as u64);
-    line = number(page, line, b" delay ", delay as u64);
-    text(page, line, b"\n")
+fn rates(
+    rt: &impl Print,
+    page: &mut [u8],
+    out: Gathered,
+    produced: u16,
+    consumed: u16,
+    delay: u16,
+) -> Gathered {
+    let mut line = number(rt, page, out, b" produced ", produced as u64);
+    line = number(rt, page, line, b" consumed ", consumed as u64);
+    line = number(rt, page, line, b" delay ", delay as u64);
+    text(rt, page, line, b"\n")
 }
 
-fn queues(page: &mut [u8], out: Gathered, sheet: sheet::Sheet) -> Gathered
+fn queues(rt: &impl Print, page: &mut [u8], out: Gathered, sheet: sheet::Sheet) -> Gathered
     requires { sheet.m ≤ 64 }
 {
     let source = sheet.source;
@@ -43,15 +71,16 @@ fn queues(page: &mut [u8], out: Gathered, sheet: sheet::Sheet) -> Gathered
     let delay = sheet.delay;
     let mut lines = out;
     for e in 0..sheet.m {
-        lines = ends(page, lines, e, source[e], sink[e]);
-        lines = rates(page, lines, produced[e], consumed[e], delay[e]);
+        lines = ends(rt, page, lines, e, source[e], sink[e]);
+        lines = rates(rt, page, lines, produced[e], consumed[e], delay[e]);
     }
     lines
 }
 
-fn first(page: &mut [u8], out: Gathered, sheet: sheet::Sheet) -> Gathered {
-    let mut line = number(page, out, b"sheet version ", sheet.version as u64);
+fn first(rt: &impl Print, page: &mut [u8], out: Gathered, sheet: sheet::Sheet) -> Gathered {
+    let mut line = number(rt, page, out, b"sheet version ", sheet.version as u64);
     line = pair(
+        rt,
         page,
         line,
         b" stations ",
@@ -59,19 +88,19 @@ fn first(page: &mut [u8], out: Gathered, sheet: sheet::Sheet) -> Gathered {
         b" queues ",
         sheet.m as u64,
     );
-    line = number(page, line, b" target ", sheet.target as u64);
-    text(page, line, b"\n")
+    line = number(rt, page, line, b" target ", sheet.target as u64);
+    text(rt, page, line, b"\n")
 }
 
-pub(crate) fn answer(page: &mut [u8], out: Gathered, body: &[u8]) -> Gathered {
+pub(crate) fn answer(rt: &impl Print, page: &mut [u8], out: Gathered, body: &[u8]) -> Gathered {
     let reading = sheet::read(body);
     if reading.number != 0 {
-        return print::refusal(page, out, reading.number, reading.place);
+        return print::refusal(rt, page, out, reading.number, reading.place);
     }
     let sheet = reading.sheet;
     let tag = sheet.tag;
     let time = sheet.time;
-    let mut lines = first(page, out, sheet);
-    lines = stations(page, lines, sheet.n, &tag, &time);
-    queues(page, lines, sheet)
+    let mut lines = first(rt, page, out, sheet);
+    lines = stations(rt, page, lines, sheet.n, &tag, &time);
+    queues(rt, page, lines, sheet)
 }

@@ -16,11 +16,17 @@ pub(crate) fn i32_at(body: &[u8], at: usize) -> i32
 }
 
 // A word and a number of either sign behind it.
-pub(crate) fn print_signed(page: &mut [u8], out: Gathered, word: &[u8], x: i32) -> Gathered {
-    let line = print::text(page, out, word);
+pub(crate) fn print_signed(
+    rt: &impl Print,
+    page: &mut [u8],
+    out: Gathered,
+    word: &[u8],
+    x: i32,
+) -> Gathered {
+    let line = print::text(rt, page, out, word);
     let size = signed::up(x) as u64 + signed::down(x) as u64;
     if x < 0 {
-        return print::number(page, line, b"-", size);
+        return print::number(rt, page, line, b"-", size);
     }
-    print::number(page, line, b"", size)
+    print::number(rt, page, line, b"", size)
 }

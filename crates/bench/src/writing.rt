@@ -6,21 +6,21 @@ ghost use Rattle.little.specs.Little.{Apart};
 use crate::malformed;
 use print::Gathered;
 
-fn bytes(page: &mut [u8], out: Gathered, lent: &[u8]) -> Gathered {
+fn bytes(rt: &impl Print, page: &mut [u8], out: Gathered, lent: &[u8]) -> Gathered {
     let mut line = out;
     for i in 0..lent.len() {
-        line = print::byte(page, line, lent[i]);
+        line = print::byte(rt, page, line, lent[i]);
     }
     line
 }
 
-fn buffer(page: &mut [u8], out: Gathered, lent: &[u8]) -> Gathered {
+fn buffer(rt: &impl Print, page: &mut [u8], out: Gathered, lent: &[u8]) -> Gathered {
     if lent.len() == 0 {
-        return print::text(page, out, b"buffer\n");
+        return print::text(rt, page, out, b"buffer\n");
     }
-    let mut line = print::text(page, out, b"buffer ");
-    line = bytes(page, line, lent);
-    print::text(page, line, b"\n")
+    let mut line = print::text(rt, page, out, b"buffer ");
+    line = bytes(rt, page, line, lent);
+    print::text(rt, page, line, b"\n")
 }
 
 fn station_column(body: &[u8], from: usize, a: usize) -> [u16; 100]
@@ -90,16 +90,17 @@ fn write(body: &[u8], a: usize, b: usize, out: &mut [u8]) -> sheet::Written
     )
 }
 
-fn written(page: &mut [u8], out: Gathered, answer: sheet::Written) -> Gathered {
+fn written(rt: &impl Print, page: &mut [u8], out: Gathered, answer: sheet::Written) -> Gathered {
     if answer.number != 0 {
-        return print::refusal(page, out, answer.number, answer.place);
+        return print::refusal(rt, page, out, answer.number, answer.place);
     }
-    let line = print::number(page, out, b"written ", answer.length as u64);
-    print::text(page, line, b"\n")
+    let line = print::number(rt, page, out, b"written ", answer.length as u64);
+    print::text(rt, page, line, b"\n")
 }
 
 // Writes what a body hands over to the lent bytes, and shows the answer and those bytes.
 fn show(
+    rt: &impl Print,
     page: &mut [u8],
     out: Gathered,
     body: &[u8],
@@ -109,8 +110,8 @@ fn show(
 ) -> Gathered
     requires { (a ≤ 100) × ((b ≤ 200) × (length body.now ≡ 18 + 4 * a + 10 * b)) }
 {
-    let lines = written(page, out, write(body, a, b, lent));
-    buffer(page, lines, lent)
+    let lines = written(rt, page, out, write(body, a, b, lent));
+    buffer(rt, page, lines, lent)
 }
 
 // The number of queues that a body with a stations hands over; 65,536 where it can't be taken apart.
@@ -128,9 +129,9 @@ fn queues_of(body: &[u8], a: usize) -> usize
     b
 }
 
-pub(crate) fn answer(page: &mut [u8], out: Gathered, body: &[u8]) -> Gathered {
+pub(crate) fn answer(rt: &impl Print, page: &mut [u8], out: Gathered, body: &[u8]) -> Gathered {
     if body.len() < 18 {
-        return malformed(page, out);
+        return malformed(rt, page, out);
     }
     let lent = little::u32_at(body, 10) as usize;
     let a = little::u16_at(body, 14) as usize;
@@ -139,9 +140,9 @@ pub(crate) fn answer(page: &mut [u8], out: Gathered, body: &[u8]) -> Gathered {
         if a <= 100 {
             if b <= 200 {
                 let mut buffer = [165u8; 2000];
-                return show(page, out, body, a, b, &mut buffer[..lent]);
+                return show(rt, page, out, body, a, b, &mut buffer[..lent]);
             }
         }
     }
-    malformed(page, out)
+    malformed(rt, page, out)
 }
