@@ -4,25 +4,11 @@ use print::Gathered;
 
 // How many entries at the end still hold the filler, every bit set.
 fn kept_firings(buffer: &[u16]) -> usize {
-    let mut end = buffer.len();
-    while 0 < end {
-        if buffer[end - 1] != 65535 {
-            return buffer.len() - end;
-        }
-        end -= 1;
-    }
-    buffer.len()
+    buffer.iter().rev().take_while(|x| **x == u16::MAX).count()
 }
 
 fn kept_times(buffer: &[u32]) -> usize {
-    let mut end = buffer.len();
-    while 0 < end {
-        if buffer[end - 1] != 4294967295 {
-            return buffer.len() - end;
-        }
-        end -= 1;
-    }
-    buffer.len()
+    buffer.iter().rev().take_while(|x| **x == u32::MAX).count()
 }
 
 fn kept(
@@ -70,9 +56,9 @@ pub(crate) fn answer(rt: &impl Print, page: &mut [u8], out: Gathered, body: &[u8
     if 256 < tables {
         return malformed(rt, page, out);
     }
-    let mut start = [65535u16; 65536];
-    let mut round = [65535u16; 256];
-    let mut times = [4294967295u32; 256];
+    let mut start = [u16::MAX; 65536];
+    let mut round = [u16::MAX; 256];
+    let mut times = [u32::MAX; 256];
     show(
         rt,
         page,
