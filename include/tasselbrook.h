@@ -1,7 +1,7 @@
 /* Tasselbrook for programs in C: plans of an optical seed sorter, from the bytes of a sheet.
  *
- * `rt staticlib exports` proves the library and writes target/staticlib/libexports.a, which links
- * into x86-64 Linux programs. Each function is proved to answer what the library's function of the
+ * `rt lib` in crates/exports proves the library and writes out/libexports.a there, which links into
+ * x86-64 Linux programs. Each function is proved to answer what the library's function of the
  * same name does. No proof holds this header to them, so a change there is made here too;
  * `examples/build` tries each function, and the layout of each struct.
  *
