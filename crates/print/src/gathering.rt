@@ -26,6 +26,18 @@ fn cut() -> Gathered
     }
 }
 
+// Writes all of these bytes, or stops at the first write that takes nothing or fails; tells whether all were taken.
+fn write_whole(rt: &impl Print, bytes: &[u8]) -> bool {
+    let mut done = 0;
+    while done < bytes.len() {
+        match rt.write_some(&bytes[done..]) {
+            Ok(0) | Err(_) => return false,
+            Ok(taken) => done += taken,
+        }
+    }
+    true
+}
+
 // Writes what the page holds.
 pub fn flush(rt: &impl Print, page: &[u8], out: Gathered) -> Gathered
     ensures { Flushed out result }
@@ -39,7 +51,7 @@ pub fn flush(rt: &impl Print, page: &[u8], out: Gathered) -> Gathered
     }
     Gathered {
         held: 0,
-        whole: rt.write_all(&page[..held]).is_ok(),
+        whole: write_whole(rt, &page[..held]),
     }
 }
 

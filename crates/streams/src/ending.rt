@@ -11,8 +11,8 @@ fn has_argument(rt: &impl Env) -> bool {
     !matches!(rt.arg(1, &mut first), Err(FillError::NotPresent))
 }
 
-// The descriptor is opened by its name and only added to, as it would be if it were written to itself. It is opened for reading too, since a pipe that is opened for
-// writing alone waits for a reader. Where it isn't open, nothing is told.
+// The descriptor is opened by its name, and only added to. It is opened for reading too, since a pipe that is opened for writing alone waits for a reader. Where it can't be
+// opened, nothing is told.
 fn tell(rt: &(impl Env + Files), status: &[u8]) {
     if !has_argument(rt) {
         return;
