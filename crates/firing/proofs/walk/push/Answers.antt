@@ -58,7 +58,7 @@ loop-e-preserved c =
     let b = c.loop-e.invariant in
     rw c.wide-e-in-loop-e.ensures.0
     (push_given _ _ _ _ _ _ _ _ _ _ _ e c.loop-e-test.true (c.requires.1.out.more e c.loop-e-test.true) b _ _ _ _
-    (c.first_token-token.ensures ∙ ap (λ (x : ℕ). at c.args.delay.now e + c.args.copy * x) c.wide32.ensures.0)
+    (rw c.wide32.ensures.0 at c.first_token-token.ensures)
     c.wide32-in-loop-e.ensures.0
     (begins)
     (ap (at c.args.q.now) c.wide-w.ensures.0)
