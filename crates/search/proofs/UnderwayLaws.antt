@@ -170,18 +170,19 @@ module _ (n m : ℕ) (source sink produced consumed delay time q : List ℕ) (to
               whole = late_length (raised_by G (at late) D) (λ e. omega (arith, legal e));
             }
 
-            -- one round more, with those that are late for the target
-            pub raised_once : ticks ≡ target → target < period → {retiming' current' order' : List ℕ} → Raised n late retiming retiming' → NewDelays m source sink produced consumed late current current'
+          -- one round more, with those that are late for the target
+          module _ {late : List ℕ} (k : LateCounts n q time target table late) where
+            pub raised_once : target < period → {retiming' current' order' : List ℕ} → Raised n late retiming retiming' → NewDelays m source sink produced consumed late current current'
                 → Reordered q late total order order' → Underway retiming' current' order' (rounds + 1)
-            raised_once same h {retiming'} {current'} {order'} r x o = record {
-              searched = rw add-one (raise (at late) u.searched (rw (retimed_is G d (at retiming) D u.retimed) (rw same at lates)) some rise);
+            raised_once h {retiming'} {current'} {order'} r x o = record {
+              searched = rw add-one (raise (at late) u.searched (rw (retimed_is G d (at retiming) D u.retimed) (lates k)) some rise);
               retimed = λ e.
                   omega (arith, x.is e.0 e.1, u.retimed e, ap (λ (y : ℕ). at produced e.0 * y) (rise (at source e.0)), ap (λ (y : ℕ). at consumed e.0 * y) (rise (at sink e.0)));
               rest = x.rest;
               ordered = record {
-                long = omega (arith, length-take total order', ap length o.is, late_length (delays_of m current') shifted);
-                run = rw o.is (late_run (delays_of m current') shifted);
-                whole = rw o.is (late_whole (delays_of m current') shifted);
+                long = omega (arith, length-take total order', ap length o.is, late_length k (delays_of m current') shifted);
+                run = rw o.is (late_run k (delays_of m current') shifted);
+                whole = rw o.is (late_whole k (delays_of m current') shifted);
               };
             }
               where
@@ -198,7 +199,7 @@ module _ (n m : ℕ) (source sink produced consumed delay time q : List ℕ) (to
                 some : (v : ℕ) × (1 ≤ at late v)
                 some =
                     let y = l.reached in
-                    (y.0, many_last (k.is y.0 y.1) (c.positive y.0 y.1) (omega (arith, y.2, same)))
+                    (y.0, many_last (k.is y.0 y.1) (c.positive y.0 y.1) (omega (arith, y.2)))
 
     -- N rounds or more raised something
     pub gave_up : {retiming current order list : List ℕ} {rounds : ℕ} → Ordered n m source sink produced consumed delay time q total list → Underway retiming current order rounds → total ≤ rounds

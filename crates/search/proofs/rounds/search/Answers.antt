@@ -67,7 +67,7 @@ loop-rounds-preserved c =
     let few : c.loop-rounds.rounds < 256 = omega (arith, c.loop-rounds-test.true, c.requires.0.few, c.requires.0.chain.few) in
     let a = c.requires in (
       omega (arith, few),
-      raised_once _ _ _ _ _ _ _ _ _ _ _ a.0 c.loop-rounds.invariant.1 a.1.0 c.loop-rounds.invariant.0 c.bases-base.ensures c.time_table-table.ensures c.latest_end-period.ensures c.late_counts-late.ensures refl c.if-period-target.false c.raised-retiming.ensures c.new_delays-current.ensures c.reorder-order.ensures,
+      raised_once _ _ _ _ _ _ _ _ _ _ _ a.0 c.loop-rounds.invariant.1 a.1.0 c.loop-rounds.invariant.0 c.bases-base.ensures c.time_table-table.ensures c.latest_end-period.ensures c.late_counts-late.ensures c.if-period-target.false c.raised-retiming.ensures c.new_delays-current.ensures c.reorder-order.ensures,
     )
 
 pub returns : goal.returns
