@@ -12,6 +12,12 @@ import sys
 DECLARED = re.compile(
     r"^\s*(?:abbrev |unfoldable |pub |record |data )*([^\s(){}\[\]:,;.]+)(?:\s+\{ℓ[^}]*\})?(?:\s*[({].*[)}])?\s+:\s"
 )
+# Names that stand first on no line: two constructors, a name given by an import, and parameters.
+INSIDE = (
+    "counts-fail no-retiming wrong-version near-end far-end near-station far-station "
+    "at-v high-v g-low g-high k-low k-high i-low"
+).split()
+
 TOKEN = re.compile(r"[^\s(){}\[\],;.`]+")
 KEPT = {"K", "N"}
 
@@ -66,6 +72,10 @@ def wanted(names):
         if "-" in name or re.match(r"^[a-z][a-z0-9]*[A-Z]", name):
             renamed[name] = APART.get(name) or respelled(name)
     return renamed
+
+
+def inside():
+    return {name: respelled(name) for name in INSIDE}
 
 
 def imported(text, own):
@@ -144,7 +154,7 @@ def main():
     changed = 0
     for file in sources:
         text = open(file).read()
-        new = turned(file, text, renamed, own)
+        new = turned(file, text, renamed | inside(), own)
         changed += new != text
         if new != text:
             open(file, "w").write(new)

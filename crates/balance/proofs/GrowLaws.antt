@@ -141,7 +141,7 @@ module _ (n m : ℕ) (source sink produced consumed : List ℕ) (C : Chain n m s
         new_entry : (l : List ℕ) (x : ℕ) → length l ≡ 32 → at (set l count x) count ≡ x
         new_entry l x long = get_or-set_same l count x 0 (omega (arith, C.few))
 
-        old_hangs : {near-end far-end near_rate far_rate : List ℕ} (k i : ℕ) → 1 ≤ i → i < count → Hangs near-end far-end near_rate far_rate t k i → Hangs near-end far-end near_rate far_rate grown_tree k i
+        old_hangs : {near_end far_end near_rate far_rate : List ℕ} (k i : ℕ) → 1 ≤ i → i < count → Hangs near_end far_end near_rate far_rate t k i → Hangs near_end far_end near_rate far_rate grown_tree k i
         old_hangs k i some l H =
             let lower = (M.steps.fits i some (omega (arith, C.few))).lower in
             record {
@@ -163,7 +163,7 @@ module _ (n m : ℕ) (source sink produced consumed : List ℕ) (C : Chain n m s
           against = λ f b. old_follows i _ _ l (R.against f b);
         }
 
-        new_hangs : {near-end far-end near_rate far_rate : List ℕ} → SeenFrom near-end far-end near_rate far_rate r.queue r.station s → Hangs near-end far-end near_rate far_rate grown_tree r.queue count
+        new_hangs : {near_end far_end near_rate far_rate : List ℕ} → SeenFrom near_end far_end near_rate far_rate r.queue r.station s → Hangs near_end far_end near_rate far_rate grown_tree r.queue count
         new_hangs q = record {
           place = rw (← q.end) last_place;
           up = rw (← q.station) (kept_old s.station parent_below ∙ sym (new_entry t.up _ M.long_up));

@@ -53,11 +53,11 @@ module _ (n m : ℕ) (source sink produced consumed : List ℕ) (C : Chain n m s
 
   module _ (e : ℕ) (x : ℕ → ℕ) (B : BalancesTo net e x) where
     -- x balances a step that was reached by a queue no higher than e
-    module _ {near-end far-end near_rate far_rate : List ℕ} (near-station : (k : ℕ) → k < m → at near-end k < n) (far-station : (k : ℕ) → k < m → at far-end k < n) where
-      hung : (k i : ℕ) → k < m → Hangs near-end far-end near_rate far_rate t k i → x (at near-end k) * at near_rate k ≡ x (at far-end k) * at far_rate k → BalancesStep t.up t.near t.far (λ j. x (G.who j)) i
+    module _ {near_end far_end near_rate far_rate : List ℕ} (near_station : (k : ℕ) → k < m → at near_end k < n) (far_station : (k : ℕ) → k < m → at far_end k < n) where
+      hung : (k i : ℕ) → k < m → Hangs near_end far_end near_rate far_rate t k i → x (at near_end k) * at near_rate k ≡ x (at far_end k) * at far_rate k → BalancesStep t.up t.near t.far (λ j. x (G.who j)) i
       hung k i h H b =
-          let u : G.who i ≡ at near-end k = rw (← H.place) (G.back (at near-end k) (near-station k h)) in
-          let v : G.who (at t.up i) ≡ at far-end k = rw (← H.up) (G.back (at far-end k) (far-station k h)) in
+          let u : G.who i ≡ at near_end k = rw (← H.place) (G.back (at near_end k) (near_station k h)) in
+          let v : G.who (at t.up i) ≡ at far_end k = rw (← H.up) (G.back (at far_end k) (far_station k h)) in
           rw (u, v, H.near, H.far) b
 
     balanced : (k : ℕ) (h : k < m) → k ≤ e → x (at source k) * at produced k ≡ x (at sink k) * at consumed k

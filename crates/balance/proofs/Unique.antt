@@ -16,7 +16,7 @@ spoiled_unique n m source sink produced consumed = lowest_failing_once
 
 -- of a queue as a station at one of its ends sees it
 module _ (source sink produced consumed : List ℕ) (k v : ℕ) (apart : at source k ≡ at sink k → ⊥) (r r' : Seen) where
-  same_side : {near-end far-end near_rate far_rate : List ℕ} → SeenFrom near-end far-end near_rate far_rate k v r → SeenFrom near-end far-end near_rate far_rate k v r' → r ≡ r'
+  same_side : {near_end far_end near_rate far_rate : List ℕ} → SeenFrom near_end far_end near_rate far_rate k v r → SeenFrom near_end far_end near_rate far_rate k v r' → r ≡ r'
   same_side p q =
       let s = p.station ∙ sym q.station in
       let n = p.near ∙ sym q.near in

@@ -6,9 +6,9 @@ use Rattle.balance.specs.declared.reaching.Seen.{Seen}
 use Rattle.balance.specs.Way.{Steps}
 
 -- queue k has v at its near end, and r is its far end with both rates
-pub record SeenFrom (near-end far-end near_rate far_rate : List ℕ) (k v : ℕ) (r : Seen) : Type 0 where
-  pub end : v ≡ at near-end k
-  pub station : r.station ≡ at far-end k
+pub record SeenFrom (near_end far_end near_rate far_rate : List ℕ) (k v : ℕ) (r : Seen) : Type 0 where
+  pub end : v ≡ at near_end k
+  pub station : r.station ≡ at far_end k
   pub near : r.near ≡ at near_rate k
   pub far : r.far ≡ at far_rate k
 
@@ -17,9 +17,9 @@ abbrev pub Sees : (source sink produced consumed : List ℕ) (k v : ℕ) (r : Se
 Sees source sink produced consumed k v r = SeenFrom source sink produced consumed k v r ⊎ SeenFrom sink source consumed produced k v r
 
 -- the station at place i was reached by queue k, whose near end it is
-pub record Hangs (near-end far-end near_rate far_rate : List ℕ) (t : Tree) (k i : ℕ) : Type 0 where
-  pub place : at t.place (at near-end k) ≡ i
-  pub up : at t.place (at far-end k) ≡ at t.up i
+pub record Hangs (near_end far_end near_rate far_rate : List ℕ) (t : Tree) (k i : ℕ) : Type 0 where
+  pub place : at t.place (at near_end k) ≡ i
+  pub up : at t.place (at far_end k) ≡ at t.up i
   pub near : at t.near i ≡ at near_rate k
   pub far : at t.far i ≡ at far_rate k
 

@@ -13,7 +13,7 @@ use Rattle.lists.specs.Test.{Tells}
 use Rattle.lists.proofs.FilledLaws.{same_list}
 use Rattle.lists.proofs.StoreLaws.{at_zeros}
 use Rattle.refusals.specs.First.{Row, Passed, nth, First, free}
-use Rattle.refusals.specs.Table.{apart, counts-fail, stuck}
+use Rattle.refusals.specs.Table.{apart, counts_fail, stuck}
 use Rattle.refusals.proofs.FirstLaws.{here, here_now, passed, none, extend, all_passed}
 use Rattle.refusals.specs.Answer.{Kind, Answers}
 use Rattle.refusals.proofs.AnswerLaws.{refuses, passes, follows}
@@ -121,7 +121,7 @@ module _ (f : Sheet) {joins : Bool} (T : Tells joins (AllJoined f.n f.m f.source
 
       -- 7 is given
       pub counts_refused : counted.fits ≡ false → f.m ≤ r → First (chain_rows f) 7 0
-      counts_refused k h = passed not_apart (passed (spoiled_passes (columns_of f) [] r L h) (here_now counts-fail (counts_fail_applies (columns_of f) [] S k)))
+      counts_refused k h = passed not_apart (passed (spoiled_passes (columns_of f) [] r L h) (here_now counts_fail (counts_fail_applies (columns_of f) [] S k)))
 
     -- none of them is
     pub chain_judged : counted.fits ≡ true → {r : Checked} → Judges (stuck_row f ∷ []) f r → Judges (chain_rows f) f r

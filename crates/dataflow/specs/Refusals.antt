@@ -2,7 +2,7 @@
 use Rattle.std.specs.Prelude.{◌≡◌, List, ℕ, ◌*◌, ◌≤◌, ◌<◌, length, ℤ, nat_abs}
 use Rattle.std.proofs.Math.Option.{some}
 use Rattle.std.proofs.Math.ListN.{get_elem?}
-use Rattle.refusals.specs.Table.{apart, unbalanced, counts-fail, stuck, no-retiming, hand, negative, slow, token}
+use Rattle.refusals.specs.Table.{apart, unbalanced, counts_fail, stuck, no_retiming, hand, negative, slow, token}
 use Rattle.refusals.specs.First.{Row, row}
 use Rattle.dataflow.specs.Net.{Net, Balances}
 use Rattle.dataflow.specs.Counts.{sum}
@@ -41,7 +41,7 @@ module _ (G : Net) where
 
   -- 7: no positive vector with sum at most 256 balances every queue.
   abbrev pub counts_row : Row
-  counts_row = row counts-fail ((x : ℕ → ℕ) → Balances G x → ¬ (sum G.stations x ≤ 256))
+  counts_row = row counts_fail ((x : ℕ → ℕ) → Balances G x → ¬ (sum G.stations x ≤ 256))
 
   -- 8: the copies have a loop of delay 0.
   abbrev pub stuck_row : (d : G.Queue → ℕ) → Row
@@ -49,7 +49,7 @@ module _ (G : Net) where
 
   -- 9: no whole numbers serve.
   abbrev pub retiming_row : (d : G.Queue → ℕ) (T : ℕ) → Row
-  retiming_row d T = row no-retiming ((r : ℕ → ℤ) → ¬ Serves G d T r)
+  retiming_row d T = row no_retiming ((r : ℕ → ℤ) → ¬ Serves G d T r)
 
   -- A hand list has exactly an entry for each station, each in range.
   pub record HandFits (l : List ℤ) : Type 0 where

@@ -76,7 +76,7 @@ module _ {c : Checked} (h : Ready c.sheet c) {l : List ℤ} (fit : HandFits (net
     pub short_refused : {r : ℕ} {rows : List Row} → LowestFailing (HasEnough gain loss) f.m r → r < f.m → First (negative_row f l ∷ rows) 13 r
     short_refused {r} s b = here {r = negative_row f l} (record {
       applies = ((r, b), number_of_lem f.m r b, is_below _ _ _ (new_is [] (r, b)) (s.fails b));
-      none_below = λ i i-low a. a.2 (not_below _ _ _ (new_is [] a.0) (s.below a.0.0 (omega (arith, number_is f.m a.0 i a.1))));
+      none_below = λ i i_low a. a.2 (not_below _ _ _ (new_is [] a.0) (s.below a.0.0 (omega (arith, number_is f.m a.0 i a.1))));
     })
 
     module _ (s : LowestFailing (HasEnough gain loss) f.m f.m) where

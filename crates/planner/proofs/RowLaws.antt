@@ -6,7 +6,7 @@ use mathlib.Core.Logic.{◌⊎◌, inl, inr}
 use native.Mathlib.Omega.{arith}
 use lib.IntN.{ℤ}
 use Rattle.lists.specs.Front.{at}
-use Rattle.refusals.specs.Table.{no-retiming, room}
+use Rattle.refusals.specs.Table.{no_retiming, room}
 use Rattle.refusals.specs.First.{Row, Passed, First}
 use Rattle.refusals.proofs.FirstLaws.{here_now}
 use Rattle.dataflow.specs.Net.{Sound}
@@ -31,7 +31,7 @@ pub none_serve : {c : Checked} {r : Found} {rows : List Row} → Ready c.sheet c
     → First (retiming_row c.sheet ∷ rows) 9 0
 none_serve {c} h n =
     let f = c.sheet in
-    here_now no-retiming
+    here_now no_retiming
     (c.q, h.counts, subst (λ (d : List ℕ). (z : ℕ → ℤ) → Serves (net_for f c.q) (delays_of f.m d) f.target z → ⊥) h.delays n.none)
 
 module _ {f : Sheet} {q : List ℕ} (counts : CountsOf f q) where

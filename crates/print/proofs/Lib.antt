@@ -1,2 +1,3 @@
+pub mod GatheringLaws
 pub mod SpelledLaws
 pub mod Unique

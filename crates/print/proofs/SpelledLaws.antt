@@ -1,9 +1,12 @@
 -- The laws of the word that a refusal's line has.
-use Prim.Native.Nat.{ℕ, ◌≤◌}
+use Prim.Native.Nat.{ℕ, zero, suc, ◌+◌, ◌≤◌, ◌<◌}
 use mathlib.Core.Path.{◌≡◌, sym, ap, ◌∙◌}
+use native.Mathlib.Decide.{ℕ_discrete}
+use native.Mathlib.Omega.{arith}
 use lib.ListN.{length}
+use Rattle.lists.proofs.Order.{order}
 use Rattle.refusals.specs.Table.{Refusal, number, word}
-use Rattle.refusals.proofs.TableLaws.{number_once}
+use Rattle.refusals.proofs.TableLaws.{number_within, number_not_ten, number_once}
 use Rattle.print.specs.declared.words.Letters.{Letters}
 use Rattle.print.specs.Spelled.{Spelled, letters}
 
@@ -14,3 +17,29 @@ spelled k e fits w = record {
   known = λ k' e'. w ∙ ap word (number_once k k' (sym e ∙ sym e'));
   unknown = λ none. absurd (none k (sym e));
 }
+
+-- A, and n is none of the `count` numbers behind `from`
+unfoldable pub NoneBehind : (A : Type 0) (from count : ℕ) → ℕ → Type 0
+NoneBehind A from zero n = A
+NoneBehind A from (suc count) n = NoneBehind A from count n × (n ≡ from + suc count → ⊥)
+
+none_behind : {A : Type 0} (from count : ℕ) {n : ℕ} → NoneBehind A from count n → A × ((x : ℕ) → from < x → x ≤ from + count → x ≡ n → ⊥)
+unfolding NoneBehind
+none_behind from zero o = (o, λ x a b e. omega arith)
+none_behind from (suc count) o =
+    let before = none_behind from count o.0 in
+    (before.0, λ x a b e. elim (ℕ_discrete x (from + suc count)) [ yes q ↦ o.1 (sym e ∙ q) | no q ↦ before.1 x a (omega arith) e ])
+
+-- no word: n is none of 1 to 9 and none of 11 to 16
+pub spelled_none : {n : ℕ} {r : Letters} → NoneBehind (NoneBehind (Unit {0}) 0 9 n) 10 6 n → r.1 ≡ 0 → Spelled n r
+spelled_none {n} o z = record { fits = omega arith; known = λ k e. absurd (none k e); unknown = λ none. z }
+  where
+    none : (k : Refusal) → number k ≡ n → ⊥
+    none k e =
+        let high = none_behind 10 6 o in
+        let low = none_behind 0 9 high.0 in
+        let within = number_within k in
+        order (number k) 10
+        (λ below. low.1 (number k) within.0 (omega arith) e)
+        (λ ten. number_not_ten k ten)
+        (λ above. high.1 (number k) above within.1 e)

@@ -5,11 +5,11 @@ use mathlib.Core.List.{[], ◌∷◌}
 use native.Mathlib.Decide.{ℕ_discrete}
 use native.Mathlib.Omega.{arith}
 use lib.ListN.{get_or}
-use Rattle.refusals.specs.Table.{Refusal, short, version, counts, layout, field, apart, counts-fail, stuck, no-retiming, room, hand, negative, slow, token, unbalanced, number}
+use Rattle.refusals.specs.Table.{Refusal, short, version, counts, layout, field, apart, counts_fail, stuck, no_retiming, room, hand, negative, slow, token, unbalanced, number}
 
 -- the refusal with a number; short where none has it
 numbered : ℕ → Refusal
-numbered x = get_or (short ∷ short ∷ version ∷ counts ∷ layout ∷ field ∷ apart ∷ counts-fail ∷ stuck ∷ no-retiming ∷ short ∷ room ∷ hand ∷ negative ∷ slow ∷ token ∷ unbalanced ∷ []) x short
+numbered x = get_or (short ∷ short ∷ version ∷ counts ∷ layout ∷ field ∷ apart ∷ counts_fail ∷ stuck ∷ no_retiming ∷ short ∷ room ∷ hand ∷ negative ∷ slow ∷ token ∷ unbalanced ∷ []) x short
 
 -- each number is from 1 to 16 and not 10, and leads back to its refusal
 in_table : (k : Refusal) → ((0 < number k) × ((number k ≤ 16) × (number k ≡ 10 → ⊥))) × (numbered (number k) ≡ k)
@@ -20,9 +20,9 @@ in_table counts = ((omega arith, (omega arith, λ e. omega arith)), refl)
 in_table layout = ((omega arith, (omega arith, λ e. omega arith)), refl)
 in_table field = ((omega arith, (omega arith, λ e. omega arith)), refl)
 in_table apart = ((omega arith, (omega arith, λ e. omega arith)), refl)
-in_table counts-fail = ((omega arith, (omega arith, λ e. omega arith)), refl)
+in_table counts_fail = ((omega arith, (omega arith, λ e. omega arith)), refl)
 in_table stuck = ((omega arith, (omega arith, λ e. omega arith)), refl)
-in_table no-retiming = ((omega arith, (omega arith, λ e. omega arith)), refl)
+in_table no_retiming = ((omega arith, (omega arith, λ e. omega arith)), refl)
 in_table room = ((omega arith, (omega arith, λ e. omega arith)), refl)
 in_table hand = ((omega arith, (omega arith, λ e. omega arith)), refl)
 in_table negative = ((omega arith, (omega arith, λ e. omega arith)), refl)

@@ -2,7 +2,7 @@
 use Rattle.std.specs.Prelude.{ℕ, List, [], ◌∷◌}
 
 pub data Refusal : Type 0 where
-  short version counts layout field apart counts-fail stuck no-retiming room hand negative slow token unbalanced : Refusal
+  short version counts layout field apart counts_fail stuck no_retiming room hand negative slow token unbalanced : Refusal
 
 abbrev pub number : Refusal → ℕ
 number short = 1
@@ -11,9 +11,9 @@ number counts = 3
 number layout = 4
 number field = 5
 number apart = 6
-number counts-fail = 7
+number counts_fail = 7
 number stuck = 8
-number no-retiming = 9
+number no_retiming = 9
 number room = 11
 number hand = 12
 number negative = 13
@@ -29,9 +29,9 @@ word counts = 99 ∷ 111 ∷ 117 ∷ 110 ∷ 116 ∷ 115 ∷ []
 word layout = 108 ∷ 97 ∷ 121 ∷ 111 ∷ 117 ∷ 116 ∷ []
 word field = 102 ∷ 105 ∷ 101 ∷ 108 ∷ 100 ∷ []
 word apart = 97 ∷ 112 ∷ 97 ∷ 114 ∷ 116 ∷ []
-word counts-fail = 99 ∷ 111 ∷ 117 ∷ 110 ∷ 116 ∷ 115 ∷ 45 ∷ 102 ∷ 97 ∷ 105 ∷ 108 ∷ []
+word counts_fail = 99 ∷ 111 ∷ 117 ∷ 110 ∷ 116 ∷ 115 ∷ 45 ∷ 102 ∷ 97 ∷ 105 ∷ 108 ∷ []
 word stuck = 115 ∷ 116 ∷ 117 ∷ 99 ∷ 107 ∷ []
-word no-retiming = 110 ∷ 111 ∷ 45 ∷ 114 ∷ 101 ∷ 116 ∷ 105 ∷ 109 ∷ 105 ∷ 110 ∷ 103 ∷ []
+word no_retiming = 110 ∷ 111 ∷ 45 ∷ 114 ∷ 101 ∷ 116 ∷ 105 ∷ 109 ∷ 105 ∷ 110 ∷ 103 ∷ []
 word room = 114 ∷ 111 ∷ 111 ∷ 109 ∷ []
 word hand = 104 ∷ 97 ∷ 110 ∷ 100 ∷ []
 word negative = 110 ∷ 101 ∷ 103 ∷ 97 ∷ 116 ∷ 105 ∷ 118 ∷ 101 ∷ []

@@ -40,8 +40,8 @@ module _ (G : Net) (low high : ℕ → ℕ) (D E : G.Queue → ℕ) where
         let top : suc (S.fired v) * c ≤ high v * c = mul-le-mul_right c b in
         let here : S'.fired v + low v ≡ S.fired v = (k v).same a (omega arith) in
         let here' = ap (λ (x : ℕ). x * c) here in
-        let at-v = ap (λ (w : ℕ). low w * c) to in
-        let high-v = ap (λ (w : ℕ). high w * c) to in
+        let at_v = ap (λ (w : ℕ). low w * c) to in
+        let high_v = ap (λ (w : ℕ). high w * c) to in
         elim (dec_le (S.fired u) (high u)) [
           | yes l ↦
               let few : S.fired u ≤ S'.fired u + low u = elim (dec_le (low u) (S.fired u)) [ yes x ↦ omega (arith, (k u).same x l) | no x ↦ omega (arith, (k u).least) ] in

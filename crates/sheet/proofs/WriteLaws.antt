@@ -10,7 +10,7 @@ use Rattle.lists.specs.Lowest.{LowestFailing}
 use Rattle.lists.proofs.Order.{le_stable, eq_stable}
 use Rattle.lists.proofs.PutLaws.{wrote, wrote_more, put_front}
 use Rattle.refusals.specs.Table.{counts}
-use Rattle.refusals.specs.Table.{version as wrong-version}
+use Rattle.refusals.specs.Table.{version as wrong_version}
 use Rattle.refusals.specs.Table.{room as too_short}
 use Rattle.refusals.specs.First.{row, Passed, First}
 use Rattle.refusals.proofs.FirstLaws.{here, here_now, passed, none, all_passed}
@@ -23,7 +23,7 @@ use Rattle.sheet.proofs.FormatLaws.{part_same, length_header, length_stations, l
 
 module _ (f : Sheet) (room : ℕ) where
   pub refused_version : (f.version ≡ 1 → ⊥) → First (write_rows f room) 2 0
-  refused_version n = here_now wrong-version n
+  refused_version n = here_now wrong_version n
 
   module _ (one : f.version ≡ 1) where
     pub refused_counts : (CountsFit f.n f.m × SheetHanded f → ⊥) → First (write_rows f room) 3 0

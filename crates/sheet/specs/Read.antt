@@ -1,7 +1,7 @@
 -- What reading answers: refusals 1 to 5, or the sheet.
 use Rattle.std.specs.Prelude.{ℕ, ◌<◌, ◌≡◌, refl, List, [], ◌∷◌, ◌++◌, length, replicate}
 use Rattle.refusals.specs.Table.{short, counts, layout, field}
-use Rattle.refusals.specs.Table.{version as wrong-version}
+use Rattle.refusals.specs.Table.{version as wrong_version}
 use Rattle.refusals.specs.First.{Row, row}
 use Rattle.refusals.specs.Answer.{Kind, Answers}
 use Rattle.sheet.specs.declared.Sheet.{Sheet}
@@ -22,7 +22,7 @@ pub record Laid (s : List ℕ) : Type 0 where
 abbrev pub header_rows : List ℕ → List Row
 header_rows s =
     row short (length s < 20)
-    ∷ row wrong-version (version s ≡ 1 → ⊥)
+    ∷ row wrong_version (version s ≡ 1 → ⊥)
     ∷ row counts (HeaderFits s → ⊥)
     ∷ row layout (Laid s → ⊥)
     ∷ []

@@ -1,7 +1,7 @@
 -- What writing answers: refusals 2, 3, 5 and 11, or the sheet's bytes.
 use Rattle.std.specs.Prelude.{ℕ, ◌<◌, ◌≡◌, refl, List, [], ◌∷◌, ◌++◌, length, drop}
 use Rattle.refusals.specs.Table.{counts}
-use Rattle.refusals.specs.Table.{version as wrong-version}
+use Rattle.refusals.specs.Table.{version as wrong_version}
 use Rattle.refusals.specs.Table.{room as too_short}
 use Rattle.refusals.specs.First.{Row, row}
 use Rattle.refusals.specs.Answer.{Kind, Answers}
@@ -43,7 +43,7 @@ sheet_from version n m target tag time source sink produced consumed delay = rec
 -- refusals 2, 3, 5 and 11, for a buffer of room bytes
 abbrev pub write_rows : (f : Sheet) (room : ℕ) → List Row
 write_rows f room =
-    row wrong-version (f.version ≡ 1 → ⊥)
+    row wrong_version (f.version ≡ 1 → ⊥)
     ∷ row counts (CountsFit f.n f.m × SheetHanded f → ⊥)
     ∷ field_row f
     ∷ row too_short (room < sheet_end f.version f.n f.m)

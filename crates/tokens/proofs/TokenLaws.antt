@@ -52,14 +52,14 @@ module _ {f : Sheet} {e g k : ℕ} where
   -- the token at its place where none does
   pub tells : (h : e < f.m) → 1 ≤ at f.produced e → 1 ≤ g → g ≤ 1000000 → 1 ≤ k → k ≤ at f.consumed e → {r : Origin}
       → r ≡ told_as (token_at (at f.delay e) (at f.produced e) (place_taken (at f.consumed e) g k)) → Answers origin_kind (token_row f e g k ∷ []) (Told f e g k) r
-  tells h makes g-low g-high k-low k-high is =
+  tells h makes g_low g_high k_low k_high is =
       passes origin_kind
-      (λ place n. n (record { queue = (e, h); is = number_of_lem f.m e h; firing_low = g-low; firing_high = g-high; token_low = k-low; token_high = k-high }))
+      (λ place n. n (record { queue = (e, h); is = number_of_lem f.m e h; firing_low = g_low; firing_high = g_high; token_low = k_low; token_high = k_high }))
       (accepts origin_kind (ap number_of is ∙ no_number t) (ap place_of is ∙ no_place t) (record {
         queue = (e, h);
         is = number_of_lem f.m e h;
         token = t;
-        promise = origin_promise (net_for f []) (delays_for f []) (e, h) g k t k-low k-high (origin_is _ _ _ makes);
+        promise = origin_promise (net_for f []) (delays_for f []) (e, h) g k t k_low k_high (origin_is _ _ _ makes);
         told = is;
       }))
     where

@@ -1,5 +1,5 @@
 use Rattle.std.proofs.Common.{refl, arith}
-use Rattle.refusals.specs.Table.{short, version, counts, layout, field, apart, counts-fail, stuck, no-retiming, room, hand, negative, slow, token, unbalanced}
+use Rattle.refusals.specs.Table.{short, version, counts, layout, field, apart, counts_fail, stuck, no_retiming, room, hand, negative, slow, token, unbalanced}
 use Rattle.print.proofs.SpelledLaws.{spelled}
 use Rattle.print.proofs.words.word.Goals as goal
 
@@ -22,13 +22,13 @@ pub returns-in-6 : goal.returns-in-6
 returns-in-6 c = spelled apart (omega arith) (omega arith) refl
 
 pub returns-in-7 : goal.returns-in-7
-returns-in-7 c = spelled counts-fail (omega arith) (omega arith) refl
+returns-in-7 c = spelled counts_fail (omega arith) (omega arith) refl
 
 pub returns-in-8 : goal.returns-in-8
 returns-in-8 c = spelled stuck (omega arith) (omega arith) refl
 
 pub returns-in-9 : goal.returns-in-9
-returns-in-9 c = spelled no-retiming (omega arith) (omega arith) refl
+returns-in-9 c = spelled no_retiming (omega arith) (omega arith) refl
 
 pub returns-in-11 : goal.returns-in-11
 returns-in-11 c = spelled room (omega arith) (omega arith) refl

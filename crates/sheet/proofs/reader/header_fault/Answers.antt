@@ -2,7 +2,7 @@ use mathlib.Core.Path.{◌≡◌, ap, ◌∙◌}
 use native.Mathlib.Omega.{arith}
 use borrow.Author.Rules.{rules}
 use Rattle.refusals.specs.Table.{short, counts, layout}
-use Rattle.refusals.specs.Table.{version as wrong-version}
+use Rattle.refusals.specs.Table.{version as wrong_version}
 use Rattle.refusals.proofs.FirstLaws.{here_now, passed, none}
 use Rattle.sheet.specs.Format.{version, queue_size}
 use Rattle.sheet.proofs.FormatLaws.{known, unknown}
@@ -14,7 +14,7 @@ returns-then-s-lt20 c = here_now short c.if-s-lt20.true
 pub returns-then-size-eq0 : goal.returns-then-size-eq0
 returns-then-size-eq0 c =
     passed (λ p h. omega arith)
-    (here_now wrong-version (unknown c.u16_at.ensures c.queue_size-size.ensures c.if-size-eq0.true))
+    (here_now wrong_version (unknown c.u16_at.ensures c.queue_size-size.ensures c.if-size-eq0.true))
 
 pub returns-then-not-header_fits : goal.returns-then-not-header_fits
 returns-then-not-header_fits c =
