@@ -23,7 +23,7 @@ struct Planning {
     room: [u32; 64],
 }
 
-// The layout on x86-64, worked out from the library's own struct (`Planning`, crates/planner).
+// The layout on x86-64, worked out from the library's own struct (`Planning`, crates/exports).
 const _: () = {
     assert!(std::mem::size_of::<Planning>() == 1024);
     assert!(offset_of!(Planning, number) == 0);

@@ -4,15 +4,16 @@ use mathlib.Core.Path.{◌≡◌, sym, ◌∙◌}
 use mathlib.Core.List.{List}
 use mathlib.Core.Logic.{⊎_elim}
 use Rattle.lists.specs.Front.{at}
-use Rattle.lists.specs.Lowest.{LowestFailing}
-use Rattle.lists.proofs.LowestLaws.{lowest_failing_once}
+use Rattle.std.specs.Prelude.{Option}
+use Rattle.lists.specs.Lowest.{FirstFailing}
+use Rattle.lists.proofs.LowestLaws.{first_failing_once}
 use Rattle.balance.specs.declared.reaching.Seen.{Seen}
 use Rattle.balance.specs.Tree.{SeenFrom, Sees}
 use Rattle.balance.specs.Spoiled.{Balanceable}
 
 -- of the queue that spoils the balance
-pub spoiled_unique : (n m : ℕ) (source sink produced consumed : List ℕ) (r r' : ℕ) → LowestFailing (Balanceable n m source sink produced consumed) m r → LowestFailing (Balanceable n m source sink produced consumed) m r' → r ≡ r'
-spoiled_unique n m source sink produced consumed = lowest_failing_once
+pub spoiled_unique : (n m : ℕ) (source sink produced consumed : List ℕ) (r r' : Option ℕ) → FirstFailing (Balanceable n m source sink produced consumed) m r → FirstFailing (Balanceable n m source sink produced consumed) m r' → r ≡ r'
+spoiled_unique n m source sink produced consumed = first_failing_once
 
 -- of a queue as a station at one of its ends sees it
 module _ (source sink produced consumed : List ℕ) (k v : ℕ) (apart : at source k ≡ at sink k → ⊥) (r r' : Seen) where

@@ -1,22 +1,11 @@
-// A tree of queues over all stations, grown from station 0 by the lowest queue that leads to one more.
-ghost use Rattle.std.specs.Prelude.{◌≡◌, ◌⊎◌};
+// The growing of a tree over all stations, from station 0 by the lowest queue that leads to one more.
+ghost use Rattle.std.specs.Prelude.{◌≡◌, ◌<◌, ◌⊎◌};
 ghost use Rattle.lists.specs.Front.{at};
-ghost use Rattle.chain.specs.Chain.{Chain};
 ghost use Rattle.counts.specs.Joining.{AllJoined};
-ghost use Rattle.counts.specs.Raising.{QueueFits};
 ghost use Rattle.balance.specs.Tree.{Sees, Grown};
 
-use chain::wide;
-
-// Each station has a place, by the order in which it was reached, from 0. The station at place i was reached by a queue from place up[i],
-// with rate near[i] at place i and far[i] at the other end.
-#[derive(Drop)]
-pub(crate) struct Tree {
-    pub(crate) place: [u16; 32],
-    pub(crate) up: [u16; 32],
-    pub(crate) near: [u16; 32],
-    pub(crate) far: [u16; 32],
-}
+use crate::way::{Step, Tree};
+use chain::Chain;
 
 // A queue as a station at one of its ends sees it: the station at its other end, and both rates.
 #[derive(Drop)]
@@ -27,69 +16,60 @@ struct Seen {
 }
 
 // Queue k, which is no self-queue, as the station sees it. A fixed number of steps.
-fn sees(
-    source: &[u16; 64],
-    sink: &[u16; 64],
-    produced: &[u16; 64],
-    consumed: &[u16; 64],
-    k: usize,
-    station: usize,
-) -> Seen
-    requires { QueueFits source.now sink.now produced.now consumed.now k × ((at source.now k ≡ at sink.now k → ⊥) × ((station ≡ at source.now k) ⊎ (station ≡ at sink.now k))) }
-    ensures { Sees source.now sink.now produced.now consumed.now k station result }
+fn sees(chain: &Chain, k: usize, station: usize) -> Seen
+    requires queue { k < chain.now.m }
+    requires apart { at chain.now.source k ≡ at chain.now.sink k → ⊥ }
+    requires end { (station ≡ at chain.now.source k) ⊎ (station ≡ at chain.now.sink k) }
+    ensures { Sees chain.now.source chain.now.sink chain.now.produced chain.now.consumed k station result }
 {
-    let u = wide(source[k]);
+    let u = usize::from(chain.source[k]);
+    let v = usize::from(chain.sink[k]);
     if u == station {
-        return Seen {
-            station: wide(sink[k]),
-            near: produced[k],
-            far: consumed[k],
-        };
-    }
-    Seen {
-        station: u,
-        near: consumed[k],
-        far: produced[k],
+        Seen {
+            station: v,
+            near: chain.produced[k],
+            far: chain.consumed[k],
+        }
+    } else {
+        Seen {
+            station: u,
+            near: chain.consumed[k],
+            far: chain.produced[k],
+        }
     }
 }
 
-// Station 0 has place 0, and one station after the other is reached. One that isn't yet has 32, beyond all places. At most n - 1 scans of
-// m queues.
-pub(crate) fn reach(
-    n: usize,
-    m: usize,
-    source: &[u16; 64],
-    sink: &[u16; 64],
-    produced: &[u16; 64],
-    consumed: &[u16; 64],
-) -> Tree
-    requires { Chain n m source.now sink.now produced.now consumed.now × AllJoined n m source.now sink.now }
-    ensures { Grown n source.now sink.now produced.now consumed.now result }
+// Station 0 has place 0, and one station after the other is reached. One that isn't yet has 32, beyond all places; nothing tests for it,
+// and an Option would have to be unwrapped at each place that is read. At most n - 1 scans of m queues.
+pub(crate) fn reach(chain: &Chain) -> Tree
+    requires { AllJoined chain.now.n chain.now.m chain.now.source chain.now.sink }
+    ensures { Grown chain.now.n chain.now.source chain.now.sink chain.now.produced chain.now.consumed result.place result.steps }
 {
-    let mut marked = [0u8; 32];
-    let mut place = [32u16; 32];
-    let mut up = [0u16; 32];
-    let mut near = [1u16; 32];
-    let mut far = [1u16; 32];
-    marked[0] = 1;
+    let mut marked = [false; 32];
+    let mut place = [32; 32];
+    let mut steps = [Step {
+        up: 0,
+        near: 1,
+        far: 1,
+    }; 32];
+    marked[0] = true;
     place[0] = 0;
-    let mut count = 1;
-    while count < n {
-        let crossed = counts::lowest_crossing(n, m, source, sink, &marked);
+    for count in 1..chain.n {
+        let crossed = counts::lowest_crossing(
+            chain.m,
+            &chain.source,
+            &chain.sink,
+            &marked,
+        ).unwrap();
         let v = crossed.station;
-        let other = sees(source, sink, produced, consumed, crossed.queue, v);
-        let parent = other.station;
-        up[count] = place[parent];
-        near[count] = other.near;
-        far[count] = other.far;
-        place[v] = count as u16;
-        marked[v] = 1;
-        count += 1;
+        let Seen { station, near, far } = sees(chain, crossed.queue, v);
+        steps[count] = Step {
+            up: place[station],
+            near,
+            far,
+        };
+        place[v] = count;
+        marked[v] = true;
     }
-    Tree {
-        place,
-        up,
-        near,
-        far,
-    }
+    Tree { place, steps }
 }

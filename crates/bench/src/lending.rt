@@ -1,71 +1,45 @@
 // Kind 2: a sheet is planned with buffers of any length.
-use crate::malformed;
-use print::Gathered;
+use crate::taking::{Fault, Malformed, Rest};
+use std::fmt;
 
-// How many entries at the end still hold the filler, every bit set.
-fn kept_firings(buffer: &[u16]) -> usize {
-    buffer.iter().rev().take_while(|x| **x == u16::MAX).count()
-}
-
-fn kept_times(buffer: &[u32]) -> usize {
-    buffer.iter().rev().take_while(|x| **x == u32::MAX).count()
-}
-
-fn kept(
-    rt: &impl Print,
-    page: &mut [u8],
-    out: Gathered,
-    start: &[u16],
-    round: &[u16],
-    times: &[u32],
-) -> Gathered {
-    let mut line = print::number(rt, page, out, b"kept ", kept_firings(start) as u64);
-    line = print::number(rt, page, line, b" ", kept_firings(round) as u64);
-    line = print::number(rt, page, line, b" ", kept_times(times) as u64);
-    print::text(rt, page, line, b"\n")
+// How many entries at the end still hold the filler.
+fn kept<T: PartialEq>(buffer: &[T], filler: &T) -> usize {
+    buffer.iter().rev().take_while(|x| *x == filler).count()
 }
 
 fn show(
-    rt: &impl Print,
-    page: &mut [u8],
-    out: Gathered,
+    out: &mut impl fmt::Write,
     sheet: &[u8],
     start: &mut [u16],
     round: &mut [u16],
     times: &mut [u32],
-) -> Gathered {
+) -> fmt::Result {
     let planned = planner::plan(sheet, start, round, times);
-    let lines = printed::plan(rt, page, out, planned, start, round, times);
-    kept(rt, page, lines, start, round, times)
+    printed::plan(out, &planned, start, round, times)?;
+    writeln!(
+        out,
+        "kept {} {} {}",
+        kept(start, &u16::MAX),
+        kept(round, &u16::MAX),
+        kept(times, &u32::MAX)
+    )
 }
 
 // Three lengths, at most those that no plan outgrows, and a sheet.
-pub(crate) fn answer(rt: &impl Print, page: &mut [u8], out: Gathered, body: &[u8]) -> Gathered {
-    if body.len() < 12 {
-        return malformed(rt, page, out);
-    }
-    let starts = little::u32_at(body, 0) as usize;
-    if 65536 < starts {
-        return malformed(rt, page, out);
-    }
-    let rounds = little::u32_at(body, 4) as usize;
-    if 256 < rounds {
-        return malformed(rt, page, out);
-    }
-    let tables = little::u32_at(body, 8) as usize;
-    if 256 < tables {
-        return malformed(rt, page, out);
-    }
+pub(crate) fn answer(out: &mut impl fmt::Write, body: &[u8]) -> Result<(), Fault> {
+    let mut rest = Rest(body);
     let mut start = [u16::MAX; 65536];
     let mut round = [u16::MAX; 256];
     let mut times = [u32::MAX; 256];
+    let starts = rest.u32()? as usize;
+    let rounds = rest.u32()? as usize;
+    let tables = rest.u32()? as usize;
     show(
-        rt,
-        page,
         out,
-        &body[12..],
-        &mut start[..starts],
-        &mut round[..rounds],
-        &mut times[..tables],
-    )
+        rest.0,
+        start.get_mut(..starts).ok_or(Malformed)?,
+        round.get_mut(..rounds).ok_or(Malformed)?,
+        times.get_mut(..tables).ok_or(Malformed)?,
+    )?;
+    Ok(())
 }

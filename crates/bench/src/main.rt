@@ -8,106 +8,70 @@ mod lending;
 mod moving;
 mod planning;
 mod reading;
-mod signs;
+mod taking;
 mod tracing;
 mod writing;
 
-ghost use Rattle.std.specs.Prelude.{◌≤◌, length};
-ghost use Rattle.bench.specs.Asked.{BodyFits};
-
-use asking::{Question, next};
-use print::Gathered;
+use asking::{Kind, Question, next};
+use print::Page;
 use std::io::Read;
+use std::{fmt, io};
+use streams::Failure;
+use taking::Fault;
 
-pub(crate) fn malformed(rt: &impl Print, page: &mut [u8], out: Gathered) -> Gathered {
-    print::text(rt, page, out, b"malformed\n")
+// The answer to a question of a kind. A match, since the kinds are an enum: a table of closures would say no more.
+fn answer(out: &mut impl fmt::Write, kind: Kind, body: &[u8]) -> Result<(), Fault> {
+    match kind {
+        Kind::Plan => Ok(planning::answer(out, body)?),
+        Kind::Lend => lending::answer(out, body),
+        Kind::Read => reading::answer(out, body),
+        Kind::Write => writing::answer(out, body),
+        Kind::Hand => checking::answer(out, body),
+        Kind::Move => moving::answer(out, body),
+        Kind::Origin => tracing::answer(out, body),
+        Kind::Dispatch => dispatching::answer(out, body),
+    }
 }
 
-// The answer to a question of a kind, or that it can't be taken apart.
-fn answer(rt: &impl Print, page: &mut [u8], out: Gathered, kind: u8, body: &[u8]) -> Gathered {
-    match kind {
-        1 => planning::answer(rt, page, out, body),
-        2 => lending::answer(rt, page, out, body),
-        3 => reading::answer(rt, page, out, body),
-        4 => writing::answer(rt, page, out, body),
-        5 => checking::answer(rt, page, out, body),
-        6 => moving::answer(rt, page, out, body),
-        7 => tracing::answer(rt, page, out, body),
-        8 => dispatching::answer(rt, page, out, body),
-        _ => malformed(rt, page, out),
-    }
+// The answer to a question, which may be that it can't be taken apart.
+fn answer_to(out: &mut impl fmt::Write, question: Question) -> Result<(), Fault> {
+    let Question::Asked(kind, body) = question else {
+        return Err(Fault::Malformed);
+    };
+    answer(out, Kind::try_from(kind)?, body)
 }
 
 // The lines of the answer to a question, behind its number.
-fn lines(rt: &impl Print, page: &mut [u8], index: u64, question: Question, space: &[u8]) -> Gathered
-    requires { (70000 ≤ length space.now) × BodyFits question }
-{
-    let numbered = print::number(rt, page, print::nothing(), b"question ", index);
-    let named = print::text(rt, page, numbered, b"\n");
-    match question {
-        Question::Asked(kind, n) => answer(rt, page, named, kind, &space[..n]),
-        _ => malformed(rt, page, named),
+fn lines(out: &mut impl fmt::Write, index: u64, question: Question) -> fmt::Result {
+    writeln!(out, "question {index}")?;
+    match answer_to(out, question) {
+        Ok(()) => Ok(()),
+        Err(Fault::Malformed) => writeln!(out, "malformed"),
+        Err(Fault::Refused(refusal)) => writeln!(out, "{refusal}"),
+        Err(Fault::Cut) => Err(fmt::Error),
     }
 }
 
-// What comes after a question: the next one, or the end, in one of three ways.
-#[derive(Drop)]
-enum After {
-    Next,
-    Done,
-    Unread,
-    Cut,
-}
-
-// Writes the answer to a question. What comes after it, where all was written.
-fn respond(
-    rt: &impl Print,
-    page: &mut [u8],
-    index: u64,
-    question: Question,
-    space: &[u8],
-    after: After,
-) -> After
-    requires { (70000 ≤ length space.now) × BodyFits question }
-{
-    let gathered = lines(rt, page, index, question, space);
-    let out = print::flush(rt, page, gathered);
-    if out.whole {
-        return after;
+// Answers question by question, up to the end of the input.
+fn run(input: &mut impl Read, out: impl io::Write + Drop) -> Result<(), Failure> {
+    let mut space = [0u8; 70000];
+    let mut page = Page::new(out);
+    for index in 0..u64::MAX {
+        let Some(question) = next(input, &mut space)? else {
+            return Ok(());
+        };
+        lines(&mut page, index, question)?;
+        page.flush()?;
+        if matches!(question, Question::Broken) {
+            return Ok(());
+        }
     }
-    After::Cut
-}
-
-// Reads and answers one question.
-fn serve(
-    rt: &impl Print,
-    input: &mut impl Read,
-    page: &mut [u8],
-    index: u64,
-    space: &mut [u8],
-) -> After
-    requires { 70000 ≤ length space.old }
-{
-    let question = next(input, space);
-    match question {
-        Question::End => After::Done,
-        Question::Unread => After::Unread,
-        Question::Broken => respond(rt, page, index, question, space, After::Done),
-        _ => respond(rt, page, index, question, space, After::Next),
-    }
+    Ok(())
 }
 
 fn main(rt: HostRuntime) {
-    let mut input = rt.stdin();
-    let mut space = [0u8; 70000];
-    let mut page = [0u8; 4096];
-    for index in 0..u64::MAX {
-        match serve(&rt, &mut input, &mut page, index, &mut space) {
-            After::Next => {}
-            After::Done => break,
-            After::Unread => return streams::unread(&rt),
-            After::Cut => return streams::cut(&rt),
-        }
+    match run(&mut rt.stdin(), io::writer(&rt)) {
+        Ok(()) => streams::done(&rt),
+        Err(failure) => streams::failed(&rt, failure),
     }
-    streams::done(&rt);
 }

@@ -1,148 +1,125 @@
 // Kind 4: fields are written as a sheet to a lent buffer.
-ghost use Rattle.std.specs.Prelude.{◌≡◌, ◌+◌, ◌*◌, ◌≤◌, length};
-ghost use Rattle.sheet.specs.Limits.{Columns};
-ghost use Rattle.little.specs.Little.{Apart};
+ghost use Rattle.std.specs.Prelude.{◌≤◌};
 
-use crate::malformed;
-use print::Gathered;
+use crate::taking::{Fault, Malformed, Rest};
+use sheet::Fields;
+use std::fmt;
 
-fn bytes(rt: &impl Print, page: &mut [u8], out: Gathered, lent: &[u8]) -> Gathered {
-    let mut line = out;
-    for i in 0..lent.len() {
-        line = print::byte(rt, page, line, lent[i]);
-    }
-    line
-}
-
-fn buffer(rt: &impl Print, page: &mut [u8], out: Gathered, lent: &[u8]) -> Gathered {
-    if lent.len() == 0 {
-        return print::text(rt, page, out, b"buffer\n");
-    }
-    let mut line = print::text(rt, page, out, b"buffer ");
-    line = bytes(rt, page, line, lent);
-    print::text(rt, page, line, b"\n")
-}
-
-fn station_column(body: &[u8], from: usize, a: usize) -> [u16; 100]
-    requires { Apart from 4 a (length body.now) 100 }
-{
-    let mut out = [0u16; 100];
-    little::column(body, from, 4, a, &mut out);
-    out
-}
-
-fn queue_column(body: &[u8], from: usize, b: usize) -> [u16; 200]
-    requires { Apart from 10 b (length body.now) 200 }
-{
-    let mut out = [0u16; 200];
-    little::column(body, from, 10, b, &mut out);
-    out
-}
-
-// Writes the first a and b entries of the columns, with the head of a body, to the buffer.
-fn write_columns(
-    body: &[u8],
+// The fields of a sheet as they are handed over: a stations and b queues. They stand in columns, since `sheet::write` takes columns.
+#[derive(Drop)]
+struct Taken {
+    version: u16,
+    n: usize,
+    m: usize,
+    target: u32,
     a: usize,
     b: usize,
-    tag: &[u16],
-    time: &[u16],
-    source: &[u16],
-    sink: &[u16],
-    produced: &[u16],
-    consumed: &[u16],
-    delay: &[u16],
-    out: &mut [u8],
-) -> sheet::Written
-    requires { (10 ≤ length body.now) × ((a ≤ length tag.now) × ((a ≤ length time.now) × Columns b source.now sink.now produced.now consumed.now delay.now)) }
-{
-    let n = little::u16_at(body, 2) as usize;
-    let m = little::u16_at(body, 4) as usize;
-    sheet::write(
-        little::u16_at(body, 0),
-        n,
-        m,
-        little::u32_at(body, 6),
-        &tag[..a],
-        &time[..a],
-        &source[..b],
-        &sink[..b],
-        &produced[..b],
-        &consumed[..b],
-        &delay[..b],
-        out,
-    )
+    tag: [u16; 100],
+    time: [u16; 100],
+    source: [u16; 200],
+    sink: [u16; 200],
+    produced: [u16; 200],
+    consumed: [u16; 200],
+    delay: [u16; 200],
+    ghost stations: { a ≤ 100 },
+    ghost queues: { b ≤ 200 },
 }
 
-// Writes the a stations and b queues that a body hands over to the buffer.
-fn write(body: &[u8], a: usize, b: usize, out: &mut [u8]) -> sheet::Written
-    requires { (a ≤ 100) × ((b ≤ 200) × (length body.now ≡ 18 + 4 * a + 10 * b)) }
-{
-    let from = 18 + 4 * a;
-    let tag = station_column(body, 16, a);
-    let time = station_column(body, 18, a);
-    let source = queue_column(body, from, b);
-    let sink = queue_column(body, from + 2, b);
-    let produced = queue_column(body, from + 4, b);
-    let consumed = queue_column(body, from + 6, b);
-    let delay = queue_column(body, from + 8, b);
-    write_columns(
-        body, a, b, &tag, &time, &source, &sink, &produced, &consumed, &delay, out,
-    )
-}
-
-fn written(rt: &impl Print, page: &mut [u8], out: Gathered, answer: sheet::Written) -> Gathered {
-    if answer.number != 0 {
-        return print::refusal(rt, page, out, answer.number, answer.place);
-    }
-    let line = print::number(rt, page, out, b"written ", answer.length as u64);
-    print::text(rt, page, line, b"\n")
-}
-
-// Writes what a body hands over to the lent bytes, and shows the answer and those bytes.
-fn show(
-    rt: &impl Print,
-    page: &mut [u8],
-    out: Gathered,
-    body: &[u8],
-    a: usize,
-    b: usize,
-    lent: &mut [u8],
-) -> Gathered
-    requires { (a ≤ 100) × ((b ≤ 200) × (length body.now ≡ 18 + 4 * a + 10 * b)) }
-{
-    let lines = written(rt, page, out, write(body, a, b, lent));
-    buffer(rt, page, lines, lent)
-}
-
-// The number of queues that a body with a stations hands over; 65,536 where it can't be taken apart.
-fn queues_of(body: &[u8], a: usize) -> usize
-    requires { a ≤ 65535 }
-    ensures { result ≤ 200 → length body.now ≡ 18 + 4 * a + 10 * result }
-{
-    if body.len() < 18 + 4 * a {
-        return 65536;
-    }
-    let b = little::u16_at(body, 16 + 4 * a) as usize;
-    if body.len() != 18 + 4 * a + 10 * b {
-        return 65536;
-    }
-    b
-}
-
-pub(crate) fn answer(rt: &impl Print, page: &mut [u8], out: Gathered, body: &[u8]) -> Gathered {
-    if body.len() < 18 {
-        return malformed(rt, page, out);
-    }
-    let lent = little::u32_at(body, 10) as usize;
-    let a = little::u16_at(body, 14) as usize;
-    let b = queues_of(body, a);
-    if lent <= 2000 {
-        if a <= 100 {
-            if b <= 200 {
-                let mut buffer = [165u8; 2000];
-                return show(rt, page, out, body, a, b, &mut buffer[..lent]);
-            }
+impl Taken {
+    fn new(version: u16, n: u16, m: u16, target: u32) -> Taken {
+        Taken {
+            version,
+            n: usize::from(n),
+            m: usize::from(m),
+            target,
+            a: 0,
+            b: 0,
+            tag: [0; 100],
+            time: [0; 100],
+            source: [0; 200],
+            sink: [0; 200],
+            produced: [0; 200],
+            consumed: [0; 200],
+            delay: [0; 200],
         }
     }
-    malformed(rt, page, out)
+
+    // The stations behind their number.
+    fn take_stations(&mut self, rest: &mut Rest) -> Result<(), Malformed> {
+        let count = usize::from(rest.u16()?);
+        if 100 < count {
+            return Err(Malformed);
+        }
+        for v in 0..count {
+            self.tag[v] = rest.u16()?;
+            self.time[v] = rest.u16()?;
+        }
+        self.a = count;
+        Ok(())
+    }
+
+    // The queues behind their number.
+    fn take_queues(&mut self, rest: &mut Rest) -> Result<(), Malformed> {
+        let count = usize::from(rest.u16()?);
+        if 200 < count {
+            return Err(Malformed);
+        }
+        for e in 0..count {
+            self.source[e] = rest.u16()?;
+            self.sink[e] = rest.u16()?;
+            self.produced[e] = rest.u16()?;
+            self.consumed[e] = rest.u16()?;
+            self.delay[e] = rest.u16()?;
+        }
+        self.b = count;
+        Ok(())
+    }
+
+    // As they are lent to the writer.
+    fn fields(&self) -> Fields {
+        Fields {
+            version: self.version,
+            n: self.n,
+            m: self.m,
+            target: self.target,
+            tag: &self.tag[..self.a],
+            time: &self.time[..self.a],
+            source: &self.source[..self.b],
+            sink: &self.sink[..self.b],
+            produced: &self.produced[..self.b],
+            consumed: &self.consumed[..self.b],
+            delay: &self.delay[..self.b],
+        }
+    }
+}
+
+// Writes the fields to the lent bytes, and shows the answer and those bytes.
+fn show(out: &mut impl fmt::Write, taken: &Taken, lent: &mut [u8]) -> fmt::Result {
+    match sheet::write(&taken.fields(), lent) {
+        Ok(length) => writeln!(out, "written {length}")?,
+        Err(refusal) => writeln!(out, "{refusal}")?,
+    }
+    write!(out, "buffer")?;
+    if !lent.is_empty() {
+        write!(out, " ")?;
+    }
+    for byte in &*lent {
+        write!(out, "{byte:02x}")?;
+    }
+    writeln!(out)
+}
+
+// The head of a sheet, the length of a buffer of at most 2,000 bytes, and the stations and queues.
+pub(crate) fn answer(out: &mut impl fmt::Write, body: &[u8]) -> Result<(), Fault> {
+    let mut rest = Rest(body);
+    let mut taken = Taken::new(rest.u16()?, rest.u16()?, rest.u16()?, rest.u32()?);
+    let lent = rest.u32()? as usize;
+    taken.take_stations(&mut rest)?;
+    taken.take_queues(&mut rest)?;
+    if !rest.0.is_empty() {
+        return Err(Fault::Malformed);
+    }
+    let mut buffer = [165u8; 2000];
+    show(out, &taken, buffer.get_mut(..lent).ok_or(Malformed)?)?;
+    Ok(())
 }

@@ -28,7 +28,7 @@ abbrev pub delays_of : (m : ℕ) (delay : List ℕ) → Below m → ℕ
 delays_of m delay e = at delay e.0
 
 -- n and m are within limits, each queue joins two stations, and its rates are within limits
-pub record Chain (n m : ℕ) (source sink produced consumed : List ℕ) : Type 0 where
+pub record ChainFits (n m : ℕ) (source sink produced consumed : List ℕ) : Type 0 where
   pub some : 1 ≤ n
   pub few : n ≤ 32
   pub few_queues : m ≤ 64
@@ -46,7 +46,7 @@ pub record DelaysGiven (m : ℕ) (delay : List ℕ) : Type 0 where
 
 -- a chain with counts that balance it, total in all
 pub record CountedChain (n m : ℕ) (source sink produced consumed q : List ℕ) (total : ℕ) : Type 0 where
-  pub chain : Chain n m source sink produced consumed
+  pub chain : ChainFits n m source sink produced consumed
   pub positive : (v : ℕ) → v < n → 1 ≤ at q v
   pub beyond : (v : ℕ) → n ≤ v → at q v ≡ 0
   pub balanced : (e : ℕ) → e < m → at q (at source e) * at produced e ≡ at q (at sink e) * at consumed e

@@ -1,2 +1,5 @@
+pub mod Bases
+pub mod Thread
 pub mod Chain
+pub mod Made
 pub mod Ceiling

@@ -1,10 +1,14 @@
-// The columns that the planner's routines are lent, the larger of two numbers, and a quotient that rounds up.
+// The chain that the planner's routines are lent, and a quotient that rounds up.
 #![tactic(auto)]
 
+mod chain;
 mod columns;
 mod dividing;
-mod maximum;
+mod round;
+mod thread;
 
-pub use columns::{wide, wide32, widen};
+pub use chain::Chain;
+pub use columns::{widen, widened};
 pub use dividing::rounded_up;
-pub use maximum::larger;
+pub use round::{Round, bases};
+pub use thread::{Threaded, threads};

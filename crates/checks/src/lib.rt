@@ -5,16 +5,15 @@ mod judge;
 
 pub use judge::check;
 
-// A refusal's number and place, and every other number 0; or 0, 0, the sheet, its counts and their sum, its delays, the threads through its queues and its round list.
+// What is worked out of a sheet that no check refuses: its target, its tags and times, its chain with the counts, its delays and its round list, which
+// stands in as many of the first entries as there are copies: there is no heap. `Ready`, which functions ask of it, is no ghost field: one wants a fact with a single proof, which isn't known
+// of a round list.
 #[derive(Clone, Copy)]
 pub struct Checked {
-    pub number: u32,
-    pub place: u32,
-    pub sheet: sheet::Sheet,
-    pub total: usize,
-    pub q: [u32; 32],
+    pub target: u32,
+    pub tag: [u16; 32],
+    pub time: [u16; 32],
+    pub round: chain::Round,
     pub delay: [u32; 64],
-    pub head: [u16; 32],
-    pub next: [u16; 64],
     pub list: [u16; 256],
 }

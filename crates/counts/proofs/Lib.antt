@@ -1,3 +1,4 @@
+pub mod FindLaws
 pub mod SumLaws
 pub mod JoinLaws
 pub mod MarkLaws

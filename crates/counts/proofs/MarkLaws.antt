@@ -1,98 +1,119 @@
 -- The marking of the stations that are joined to station 0.
-use Prim.Native.Nat.{ℕ, ◌+◌, ◌≤◌, ◌<◌}
-use mathlib.Core.Path.{◌≡◌, refl, sym, ◌∙◌}
+use Prim.Native.Nat.{ℕ, zero, suc, ◌+◌, ◌≤◌, ◌<◌}
+use mathlib.Core.Path.{◌≡◌, refl, sym, ap, ◌∙◌}
+use mathlib.Core.Bool.{Bool, true, false, cond}
 use mathlib.Core.List.{List}
-use mathlib.Core.Logic.{inl, inr, ⊎_elim}
+use mathlib.Core.Logic.{⊎_elim}
 use native.Mathlib.Omega.{arith}
+use native.Mathlib.Decide.{ℕ_discrete}
 use lib.ListN.{length, set, replicate, length-set, length-replicate}
-use Rattle.lists.specs.Front.{at}
-use Rattle.lists.specs.Lowest.{LowestFailing}
-use Rattle.lists.proofs.Order.{eq_stable}
+use lib.Seq.{get_or-set_same, get_or-set_other}
+use Rattle.std.specs.Prelude.{Some, None}
+use Rattle.lists.proofs.TestLaws.{differ}
 use Rattle.dataflow.specs.Counts.{sum}
 use Rattle.dataflow.specs.Refusals.{Joined, here, along, against}
-use Rattle.dataflow.proofs.SumLaws.{sum_same, sum_lt}
+use Rattle.dataflow.proofs.SumLaws.{sum_same, sum_none, sum_lt}
 use Rattle.counts.specs.declared.Crossing.{Crossing}
-use Rattle.counts.specs.Joining.{Ends, ends_of, AllJoined, Marks, OneSide, Crosses}
-use Rattle.lists.proofs.StoreLaws.{at_zeros, after_store}
-use Rattle.counts.proofs.SumLaws.{sum_zeros, sum_ones, sum_store}
+use Rattle.counts.specs.Joining.{Ends, ends_of, AllJoined, mark, OneSide, Crosses}
+use Rattle.counts.proofs.SumLaws.{sum_ones, sum_but_one}
 use Rattle.counts.proofs.JoinLaws.{joined_through}
 
+-- 1 for a mark
+abbrev pub tally : Bool → ℕ
+tally b = cond b 1 0
+
+-- what a mark holds at its place, and each other at its own
+after_mark : (marked : List Bool) (v : ℕ) → v < length marked → (P : ℕ → Bool → Type 0) → P v true → ((w : ℕ) → (w ≡ v → ⊥) → P w (mark marked w)) → (w : ℕ) → P w (mark (set marked v true) w)
+after_mark marked v h P new old w =
+    elim (ℕ_discrete w v) [
+      | yes e ↦ rw (e, get_or-set_same marked v true false h) new
+      | no n ↦ rw (get_or-set_other marked v w true false n) (old w n)
+    ]
+
 -- so many stations are marked, station 0 and none that is not joined to it
-pub record Marking (n m : ℕ) (source sink marked : List ℕ) (count : ℕ) : Type 0 where
+pub record Marking (n m : ℕ) (source sink : List ℕ) (marked : List Bool) (count : ℕ) : Type 0 where
   pub long : length marked ≡ 32
-  pub marks : Marks marked
-  pub first : at marked 0 ≡ 1
-  pub joins : (v : ℕ) → at marked v ≡ 1 → Joined (ends_of n m source sink) 0 v
-  pub counted : count ≡ sum n (at marked)
+  pub first : mark marked 0 ≡ true
+  pub joins : (v : ℕ) → mark marked v ≡ true → Joined (ends_of n m source sink) 0 v
+  pub counted : count ≡ sum n (λ v. tally (mark marked v))
 
--- queue e is the first with two marks, so that its unmarked end is one beside a marked station
-module _ {m e u v : ℕ} (source sink marked : List ℕ) (K : Marks marked) (h : e < m) (below : (k : ℕ) → k < e → OneSide source sink marked k) (a : u ≡ at source e) (b : v ≡ at sink e) (d : at marked u ≡ at marked v → ⊥) where
-  lowest : LowestFailing (OneSide source sink marked) m e
-  lowest = record { within = omega arith; below = below; fails = λ k s. d (rw (a, b) s) }
+pub no_mark : (k v : ℕ) → mark (replicate k false) v ≡ false
+no_mark zero v = refl
+no_mark (suc k) zero = refl
+no_mark (suc k) (suc v) = no_mark k v
 
-  pub source_new : {n : ℕ} → at marked u ≡ 0 → Crosses n m source sink marked (record { queue = e; station = u })
-  source_new z = record { lowest = lowest; new = λ k. z; beside = λ k. inl (record { end = a; known = rw (← b) (omega (arith, K.one v)) }); nowhere = λ k. absurd (omega arith) }
+tally_most : (b : Bool) → tally b ≤ 1
+tally_most true = omega arith
+tally_most false = omega arith
 
-  pub sink_new : {n : ℕ} → (at marked u ≡ 0 → ⊥) → Crosses n m source sink marked (record { queue = e; station = v })
-  sink_new z = record { lowest = lowest; new = λ k. omega (arith, K.one u, K.one v); beside = λ k. inr (record { end = b; known = rw (← a) (omega (arith, K.one u)) }); nowhere = λ k. absurd (omega arith) }
+pub not_false : (b : Bool) → (b ≡ false → ⊥) → b ≡ true
+not_false true k = refl
+not_false false k = absurd (k refl)
 
 module _ (n m : ℕ) (source sink : List ℕ) where
-  pub mark_first : 1 ≤ n → Marking n m source sink (set (replicate 32 0) 0 1) 1
+  pub mark_first : 1 ≤ n → Marking n m source sink (set (replicate 32 false) 0 true) 1
   mark_first some =
-      let zeros : List ℕ = replicate 32 0 in
-      let h : 0 < length zeros = omega (arith, length-replicate {A = ℕ} 32 0) in
-      let z = at_zeros 32 in
+      let none : List Bool = replicate 32 false in
+      let h : 0 < length none = omega (arith, length-replicate {A = Bool} 32 false) in
+      let same = sum_but_one (λ v. tally (mark (set none 0 true) v)) (λ v. 0) 0 (λ w d. ap tally (get_or-set_other none 0 w true false d ∙ no_mark 32 w)) n some in
       record {
-        long = length-set zeros 0 1 ∙ length-replicate {A = ℕ} 32 0;
-        marks = record { one = after_store zeros 0 1 h (λ w y. y ≤ 1) (omega arith) (λ w k. omega (arith, z w)) };
-        first = after_store zeros 0 1 h (λ w y. w ≡ 0 → y ≡ 1) (λ e. refl) (λ w k e. absurd (k e)) 0 refl;
-        joins = after_store zeros 0 1 h (λ w y. y ≡ 1 → Joined (ends_of n m source sink) 0 w) (λ e. here) (λ w k e. absurd (omega (arith, z w)));
-        counted = omega (arith, sum_store zeros 0 1 h n some, sum_zeros n 32, z 0);
+        long = length-set none 0 true ∙ length-replicate {A = Bool} 32 false;
+        first = get_or-set_same none 0 true false h;
+        joins = after_mark none 0 h (λ w b. b ≡ true → Joined (ends_of n m source sink) 0 w) (λ e. here) (λ w k e. absurd (differ e (no_mark 32 w)));
+        counted = omega (arith, same, sum_none n);
       }
 
-  module _ (marked : List ℕ) (count : ℕ) (M : Marking n m source sink marked count) where
-    module _ (r : Crossing) (X : Crosses n m source sink marked r) (h : r.queue < m) where
-      joined_next : Joined (ends_of n m source sink) 0 r.station
+  module _ (marked : List Bool) (count : ℕ) (M : Marking n m source sink marked count) where
+    module _ (c : Crossing) (X : Crosses m source sink marked (Some c)) where
+      pub crossing_queue : c.queue < m
+      crossing_queue = X.lowest.inside c.queue refl
+
+      joined_next : Joined (ends_of n m source sink) 0 c.station
       joined_next =
           ⊎_elim
-          (λ b. rw b.end (against (r.queue, h) (M.joins _ b.known)))
-          (λ b. rw b.end (along (r.queue, h) (M.joins _ b.known)))
-          (X.beside h)
+          (λ b. rw b.end (against (c.queue, crossing_queue) (M.joins _ b.known)))
+          (λ b. rw b.end (along (c.queue, crossing_queue) (M.joins _ b.known)))
+          X.leads.beside
 
       -- the new station is one of n
-      pub new_station : Ends n m source sink → r.station < n
-      new_station E = ⊎_elim (λ b. rw b.end (E.leaves r.queue h)) (λ b. rw b.end (E.enters r.queue h)) (X.beside h)
+      pub new_station : Ends n m source sink → c.station < n
+      new_station E =
+          ⊎_elim
+          (λ b. rw b.end (E.leaves c.queue crossing_queue))
+          (λ b. rw b.end (E.enters c.queue crossing_queue))
+          X.leads.beside
 
-      pub mark_next : Ends n m source sink → Marking n m source sink (set marked r.station 1) (count + 1)
+      pub mark_next : Ends n m source sink → Marking n m source sink (set marked c.station true) (count + 1)
       mark_next E =
+          let v = c.station in
           let s = new_station E in
-          let l : r.station < length marked = omega (arith, M.long, E.few) in
+          let l : v < length marked = omega (arith, M.long, E.few) in
+          let same = sum_but_one (λ w. tally (mark (set marked v true) w)) (λ w. tally (mark marked w)) v (λ w d. ap tally (get_or-set_other marked v w true false d)) n s in
           record {
-            long = length-set marked r.station 1 ∙ M.long;
-            marks = record { one = after_store marked r.station 1 l (λ w y. y ≤ 1) (omega arith) (λ w k. M.marks.one w) };
-            first = after_store marked r.station 1 l (λ w y. w ≡ 0 → y ≡ 1) (λ e. refl) (λ w k e. rw e M.first) 0 refl;
-            joins = after_store marked r.station 1 l (λ w y. y ≡ 1 → Joined (ends_of n m source sink) 0 w) (λ e. joined_next) (λ w k. M.joins w);
-            counted = omega (arith, sum_store marked r.station 1 l n s, X.new h, M.counted);
+            long = length-set marked v true ∙ M.long;
+            first = after_mark marked v l (λ w b. w ≡ 0 → b ≡ true) (λ e. refl) (λ w k e. rw e M.first) 0 refl;
+            joins = after_mark marked v l (λ w b. b ≡ true → Joined (ends_of n m source sink) 0 w) (λ e. joined_next) (λ w k. M.joins w);
+            counted = omega (arith, same, ap tally X.leads.new, ap tally (get_or-set_same marked v true false l), M.counted);
           }
 
     -- where as many are marked as there are, all are
-    pub all_marked : n ≤ count → (w : ℕ) → w < n → at marked w ≡ 1
+    pub all_marked : n ≤ count → (w : ℕ) → w < n → mark marked w ≡ true
     all_marked all w h =
-        eq_stable
-        (λ k.
+        not_false _
+        (λ f.
         omega
-        (arith, sum_lt n (at marked) (λ x. 1) M.marks.one w h (omega (arith, M.marks.one w, k)), sum_ones n, M.counted))
+        (arith, sum_lt n (λ v. tally (mark marked v)) (λ v. 1) (λ v. tally_most (mark marked v)) w h (omega (arith, ap tally f)), sum_ones n, M.counted))
 
     pub all_joined : n ≤ count → AllJoined n m source sink
     all_joined all u v a b = joined_through (ends_of n m source sink) (M.joins u (all_marked all u a)) (M.joins v (all_marked all v b))
 
     -- where no queue has just one marked end, all that are joined have the same mark
-    same_mark : {u v : ℕ} → ((e : ℕ) → e < m → OneSide source sink marked e) → Joined (ends_of n m source sink) u v → at marked u ≡ at marked v
+    same_mark : {u v : ℕ} → ((e : ℕ) → e < m → OneSide source sink marked e) → Joined (ends_of n m source sink) u v → mark marked u ≡ mark marked v
     same_mark none here = refl
     same_mark none (along e j) = same_mark none j ∙ none e.0 e.1
     same_mark none (against e j) = same_mark none j ∙ sym (none e.0 e.1)
 
-    pub not_joined : (r : Crossing) → 1 ≤ n → count < n → Crosses n m source sink marked r → m ≤ r.queue → AllJoined n m source sink → ⊥
-    not_joined r some fewer X h all =
+    pub not_joined : 1 ≤ n → count < n → Crosses m source sink marked None → AllJoined n m source sink → ⊥
+    not_joined some fewer X all =
         omega
-        (arith, sum_same n (at marked) (λ x. 1) (λ w k. sym (same_mark (λ e l. X.lowest.below e (omega arith)) (all 0 w some k)) ∙ M.first), sum_ones n, M.counted)
+        (arith, sum_same n (λ v. tally (mark marked v)) (λ v. 1) (λ w k. ap tally (sym (same_mark X.lowest.lowest.below (all 0 w some k)) ∙ M.first)), sum_ones n, M.counted)

@@ -4,15 +4,16 @@ use mathlib.Core.Path.{◌≡◌, sym}
 use mathlib.Core.Bool.{Bool, true, false}
 use mathlib.Core.List.{List}
 use native.Mathlib.Omega.{arith}
+use Rattle.std.specs.Prelude.{None}
 use Rattle.lists.specs.Front.{at}
 use Rattle.lists.specs.Test.{Tells}
 use Rattle.dataflow.specs.Counts.{Counts}
 use Rattle.dataflow.specs.Refusals.{Joined, here, along, against, apart_row, counts_row}
 use Rattle.dataflow.specs.Sheet.{Sheet, net}
 use Rattle.counts.specs.declared.Counted.{Counted}
-use Rattle.chain.specs.Chain.{Chain, CountedChain}
+use Rattle.chain.specs.Chain.{ChainFits, CountedChain}
 use Rattle.counts.specs.Joining.{ends_of, AllJoined}
-use Rattle.counts.specs.Smallest.{Smallest}
+use Rattle.counts.specs.Smallest.{SmallestAre, Smallest}
 
 module _ (s : Sheet) (q : List ℕ) where
   by_ends : {u v : ℕ} → Joined (net s q) u v → Joined (ends_of s.stations s.queues s.source s.sink) u v
@@ -33,30 +34,29 @@ module _ (s : Sheet) (q : List ℕ) where
     pub apart_applies : r ≡ false → (apart_row (net s q)).applies 0
     apart_applies f all = T.fails f (λ u v h k. by_ends (all u v h k))
 
-  -- 7 applies exactly where it doesn't fit, and else the answer's q are the counts
-  module _ {r : Counted} (S : Smallest s.stations s.queues s.source s.sink s.produced s.consumed r) where
-    pub are_counts : r.fits ≡ true → Counts (net s q) (at r.q)
-    are_counts t =
-        let c = S.counts t in
+  -- 7 applies exactly where there are none, and else the answer's q are the counts
+  module _ {r : Counted} (S : SmallestAre s.stations s.queues s.source s.sink s.produced s.consumed r) where
+    pub are_counts : Counts (net s q) (at r.q)
+    are_counts =
         record {
-          balances = record { positive = c.balances.positive; balanced = c.balances.balanced };
-          least = λ x b. c.least x (record { positive = b.positive; balanced = b.balanced });
+          balances = record { positive = S.counts.balances.positive; balanced = S.counts.balances.balanced };
+          least = λ x b. S.counts.least x (record { positive = b.positive; balanced = b.balanced });
         }
 
-    pub counts_pass : r.fits ≡ true → ¬ (counts_row (net s q)).applies 0
-    counts_pass t a = a (at r.q) (are_counts t).balances (omega (arith, S.total, S.most))
+    pub counts_pass : ¬ (counts_row (net s q)).applies 0
+    counts_pass a = a (at r.q) are_counts.balances (omega (arith, S.total, S.most))
 
-    pub counts_fail_applies : r.fits ≡ false → (counts_row (net s q)).applies 0
-    counts_fail_applies f x b = S.fails f x (record { positive = b.positive; balanced = b.balanced })
+  pub counts_fail_applies : Smallest s.stations s.queues s.source s.sink s.produced s.consumed None → (counts_row (net s q)).applies 0
+  counts_fail_applies none x b = none x (record { positive = b.positive; balanced = b.balanced })
 
 -- a chain with the counts that fit it
-module _ {n m : ℕ} {source sink produced consumed : List ℕ} (chain : Chain n m source sink produced consumed) where
-  pub counted_chain : {r : Counted} → Smallest n m source sink produced consumed r → r.fits ≡ true → CountedChain n m source sink produced consumed r.q r.total
-  counted_chain S t = record {
+module _ {n m : ℕ} {source sink produced consumed : List ℕ} (chain : ChainFits n m source sink produced consumed) where
+  pub counted_chain : {r : Counted} → SmallestAre n m source sink produced consumed r → CountedChain n m source sink produced consumed r.q r.total
+  counted_chain S = record {
     chain = chain;
-    positive = (S.counts t).balances.positive;
+    positive = S.counts.balances.positive;
     beyond = S.beyond;
-    balanced = λ e h. (S.counts t).balances.balanced (e, h);
+    balanced = λ e h. S.counts.balances.balanced (e, h);
     adds = sym S.total;
     few = S.most;
   }

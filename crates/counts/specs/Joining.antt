@@ -1,7 +1,7 @@
--- Whether the stations are joined. Those that are joined to station 0 are marked, by 1.
-use Rattle.std.specs.Prelude.{ℕ, ◌≤◌, ◌<◌, ◌≡◌, List, [], ◌⊎◌}
+-- Whether the stations are joined. Those that are joined to station 0 are marked.
+use Rattle.std.specs.Prelude.{ℕ, ◌≤◌, ◌<◌, ◌≡◌, Bool, true, false, List, [], ◌⊎◌, Option, get_or, IfSome, option_map}
 use Rattle.lists.specs.Front.{at}
-use Rattle.lists.specs.Lowest.{LowestFailing}
+use Rattle.lists.specs.Lowest.{FirstFailing}
 use Rattle.dataflow.specs.Net.{Net}
 use Rattle.dataflow.specs.Refusals.{Joined}
 use Rattle.chain.specs.Chain.{net_of}
@@ -23,22 +23,25 @@ ends_of n m source sink = net_of n m source sink [] [] [] []
 abbrev pub AllJoined : (n m : ℕ) (source sink : List ℕ) → Type 0
 AllJoined n m source sink = (u v : ℕ) → u < n → v < n → Joined (ends_of n m source sink) u v
 
--- each mark is 0 or 1
-pub record Marks (marked : List ℕ) : Type 0 where
-  pub one : (v : ℕ) → at marked v ≤ 1
+-- whether v is marked
+abbrev pub mark : (marked : List Bool) (v : ℕ) → Bool
+mark marked v = get_or marked v false
 
 -- both ends of queue e are marked, or neither is
-abbrev pub OneSide : (source sink marked : List ℕ) (e : ℕ) → Type 0
-OneSide source sink marked e = at marked (at source e) ≡ at marked (at sink e)
+abbrev pub OneSide : (source sink : List ℕ) (marked : List Bool) (e : ℕ) → Type 0
+OneSide source sink marked e = mark marked (at source e) ≡ mark marked (at sink e)
 
 -- queue e has a marked station at its far end, and v at its near one
-pub record Beside (near far marked : List ℕ) (v e : ℕ) : Type 0 where
+pub record Beside (near far : List ℕ) (marked : List Bool) (v e : ℕ) : Type 0 where
   pub end : v ≡ at near e
-  pub known : at marked (at far e) ≡ 1
+  pub known : mark marked (at far e) ≡ true
 
--- the lowest queue with just one marked end, and the station at its other end; or m and n, where no queue has
-pub record Crosses (n m : ℕ) (source sink marked : List ℕ) (r : Crossing) : Type 0 where
-  pub lowest : LowestFailing (OneSide source sink marked) m r.queue
-  pub new : r.queue < m → at marked r.station ≡ 0
-  pub beside : r.queue < m → Beside source sink marked r.station r.queue ⊎ Beside sink source marked r.station r.queue
-  pub nowhere : m ≤ r.queue → r.station ≡ n
+-- the station of this crossing has no mark, and is at one end of its queue, whose other end has one
+pub record Leads (source sink : List ℕ) (marked : List Bool) (c : Crossing) : Type 0 where
+  pub new : mark marked c.station ≡ false
+  pub beside : Beside source sink marked c.station c.queue ⊎ Beside sink source marked c.station c.queue
+
+-- the lowest of m queues with just one marked end, and the station at its other end, if there is one
+pub record Crosses (m : ℕ) (source sink : List ℕ) (marked : List Bool) (r : Option Crossing) : Type 0 where
+  pub lowest : FirstFailing (OneSide source sink marked) m (option_map (λ c. c.queue) r)
+  pub leads : IfSome r (Leads source sink marked)

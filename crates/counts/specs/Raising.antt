@@ -12,18 +12,6 @@ pub record Ones (n : ℕ) (q : List ℕ) : Type 0 where
 pub record Small (q : List ℕ) : Type 0 where
   pub most : (v : ℕ) → at q v ≤ 256
 
--- e is one of at most 64 queues, and at one end its station and its rate are within limits
-pub record EndFits (station rate : List ℕ) (e : ℕ) : Type 0 where
-  pub queue : e < 64
-  pub is_station : at station e < 32
-  pub some : 1 ≤ at rate e
-  pub most : at rate e ≤ 64
-
--- both ends of queue e are within limits
-pub record QueueFits (source sink produced consumed : List ℕ) (e : ℕ) : Type 0 where
-  pub leaves : EndFits source produced e
-  pub enters : EndFits sink consumed e
-
 -- x balances queue e
 abbrev pub Balanced : (source sink produced consumed : List ℕ) (x : ℕ → ℕ) (e : ℕ) → Type 0
 Balanced source sink produced consumed x e = x (at source e) * at produced e ≡ x (at sink e) * at consumed e

@@ -14,10 +14,9 @@ pub struct Crossing {
     pub station: usize,
 }
 
-// The smallest counts q and their sum. Where no counts with a sum of at most 256 balance every queue, fits is false and every number 0.
+// The smallest counts q and their sum. A column of a fixed length: there is no heap.
 #[derive(Drop)]
 pub struct Counted {
-    pub fits: bool,
     pub total: usize,
-    pub q: [u16; 32],
+    pub q: [u32; 32],
 }

@@ -1,136 +1,91 @@
 // The smallest counts: 1 everywhere at first, and the short end of a queue is raised until every queue balances.
-ghost use Rattle.std.specs.Prelude.{ℕ, ◌*◌, ◌≤◌, ◌<◌, ◌≡◌};
+ghost use Rattle.std.specs.Prelude.{◌*◌, ◌≤◌, ◌<◌, ◌≡◌};
 ghost use Rattle.lists.specs.Front.{at};
-ghost use Rattle.lists.specs.Lowest.{LowestFailing};
-ghost use Rattle.chain.specs.Ceiling.{Ceiling};
-ghost use Rattle.chain.specs.Chain.{Chain};
-ghost use Rattle.counts.specs.Raising.{Balanced, Small, EndFits, QueueFits, Raises, Ones};
+ghost use Rattle.lists.specs.Lowest.{FirstFailing};
+ghost use Rattle.counts.specs.Raising.{Balanced, Small, Raises, Ones};
 ghost use Rattle.counts.specs.Smallest.{Smallest};
 
 use crate::Counted;
-use chain::wide;
+use chain::{Chain, rounded_up};
 
 // A station, and the count that it is raised to.
 #[derive(Drop)]
 struct Rise {
     station: usize,
-    count: u16,
+    count: u32,
 }
 
 // 1 for each of n stations. n steps.
-fn ones(n: usize) -> [u16; 32]
+fn ones(n: usize) -> [u32; 32]
     requires { n ≤ 32 }
     ensures { Ones n result }
 {
-    let mut q = [0u16; 32];
-    let mut v = 0;
-    while v < n {
-        q[v] = 1;
-        v += 1;
-    }
+    let mut q = [0; 32];
+    q[..n].fill(1);
     q
 }
 
-// How many tokens queue e gains or loses at one of its ends while the station there fires as often as it counts.
-// One product.
-fn moved(station: &[u16; 64], rate: &[u16; 64], q: &[u16; 32], e: usize) -> u16
-    requires { EndFits station.now rate.now e × Small q.now }
-    ensures { (result ≡ at q.now (at station.now e) * at rate.now e) × (result ≤ 16384) }
+// How many tokens the source of queue e makes, and how many its sink takes, while each fires as often as it counts.
+// Two products.
+fn moved(chain: &Chain, q: &[u32; 32], e: usize) -> (u32, u32)
+    requires queue { e < chain.now.m }
+    requires small { Small q.now }
+    ensures made { result.0 ≡ at q.now (at chain.now.source e) * at chain.now.produced e }
+    ensures taken { result.1 ≡ at q.now (at chain.now.sink e) * at chain.now.consumed e }
 {
-    let v = wide(station[e]);
-    q[v] * rate[e]
+    let made = q[usize::from(chain.source[e])] * u32::from(chain.produced[e]);
+    let taken = q[usize::from(chain.sink[e])] * u32::from(chain.consumed[e]);
+    (made, taken)
 }
 
-// The lowest of m queues that doesn't balance, or m. One scan of at most m queues.
-fn lowest_unmet(
-    m: usize,
-    source: &[u16; 64],
-    sink: &[u16; 64],
-    produced: &[u16; 64],
-    consumed: &[u16; 64],
-    q: &[u16; 32],
-) -> usize
-    requires { ((e : ℕ) → e < m → QueueFits source.now sink.now produced.now consumed.now e) × Small q.now }
-    ensures { LowestFailing (Balanced source.now sink.now produced.now consumed.now (at q.now)) m result }
+// The lowest queue that doesn't balance. One scan of at most m queues.
+fn lowest_unmet(chain: &Chain, q: &[u32; 32]) -> Option<usize>
+    requires { Small q.now }
+    ensures { FirstFailing (Balanced chain.now.source chain.now.sink chain.now.produced chain.now.consumed (at q.now)) chain.now.m result }
 {
-    let mut e = 0;
-    while e < m {
-        if moved(source, produced, q, e) != moved(sink, consumed, q, e) {
-            return e;
-        }
-        e += 1;
-    }
-    e
-}
-
-// How often a station with this rate has to fire for so many tokens. One division.
-fn ceiling(tokens: u16, rate: u16) -> u16
-    requires { (tokens ≤ 16384) × ((1 ≤ rate) × (rate ≤ 64)) }
-    ensures { Ceiling tokens rate result }
-{
-    (tokens + rate - 1) / rate
+    (0..chain.m).find(|&e| {
+        let (made, taken) = moved(chain, q, e);
+        made != taken
+    })
 }
 
 // The station at the short end of queue e, and the count that the other end asks of it.
 // Two products and one division.
-fn raise(
-    source: &[u16; 64],
-    sink: &[u16; 64],
-    produced: &[u16; 64],
-    consumed: &[u16; 64],
-    q: &[u16; 32],
-    e: usize,
-) -> Rise
-    requires { QueueFits source.now sink.now produced.now consumed.now e × (Small q.now × (Balanced source.now sink.now produced.now consumed.now (at q.now) e → ⊥)) }
-    ensures { Raises source.now sink.now produced.now consumed.now q.now e result.station result.count }
+fn raise(chain: &Chain, q: &[u32; 32], e: usize) -> Rise
+    requires queue { e < chain.now.m }
+    requires small { Small q.now }
+    requires unmet { Balanced chain.now.source chain.now.sink chain.now.produced chain.now.consumed (at q.now) e → ⊥ }
+    ensures within { result.station < chain.now.n }
+    ensures raised { Raises chain.now.source chain.now.sink chain.now.produced chain.now.consumed q.now e result.station result.count }
 {
-    let made = moved(source, produced, q, e);
-    let taken = moved(sink, consumed, q, e);
+    let (made, taken) = moved(chain, q, e);
     if made < taken {
         Rise {
-            station: wide(source[e]),
-            count: ceiling(taken, produced[e]),
+            station: usize::from(chain.source[e]),
+            count: rounded_up(taken, u32::from(chain.produced[e])),
         }
     } else {
         Rise {
-            station: wide(sink[e]),
-            count: ceiling(made, consumed[e]),
+            station: usize::from(chain.sink[e]),
+            count: rounded_up(made, u32::from(chain.consumed[e])),
         }
     }
 }
 
 // A raise leaves q at or below every vector that balances, so where the sum passes 256 none of them fits.
 // At most 256 scans of m queues, each with one raise.
-pub fn counts(
-    n: usize,
-    m: usize,
-    source: &[u16; 64],
-    sink: &[u16; 64],
-    produced: &[u16; 64],
-    consumed: &[u16; 64],
-) -> Counted
-    requires { Chain n m source.now sink.now produced.now consumed.now }
-    ensures { Smallest n m source.now sink.now produced.now consumed.now result }
+pub fn counts(chain: &Chain) -> Option<Counted>
+    ensures { Smallest chain.now.n chain.now.m chain.now.source chain.now.sink chain.now.produced chain.now.consumed result }
 {
-    let mut q = ones(n);
-    let mut total = n;
+    let mut q = ones(chain.n);
+    let mut total = chain.n;
     while total <= 256 {
-        let e = lowest_unmet(m, source, sink, produced, consumed, &q);
-        if m <= e {
-            return Counted {
-                fits: true,
-                total,
-                q,
-            };
-        }
-        let raised = raise(source, sink, produced, consumed, &q, e);
-        let v = raised.station;
-        total = total + wide(raised.count) - wide(q[v]);
-        q[v] = raised.count;
+        let Some(e) = lowest_unmet(chain, &q) else {
+            return Some(Counted { total, q });
+        };
+        let Rise { station, count } = raise(chain, &q, e);
+        total = total + count as usize - q[station] as usize;
+        q[station] = count;
     }
-    Counted {
-        fits: false,
-        total: 0,
-        q: [0; 32],
-    }
+    None
 }

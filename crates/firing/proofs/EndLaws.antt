@@ -1,52 +1,76 @@
 -- The laws of what a time table tells: the latest finish and the late copies, found step by step.
-use Prim.Native.Nat.{ℕ, suc, ◌+◌, ◌-◌, ◌≤◌, ◌<◌, max}
+use Prim.Native.Nat.{ℕ, zero, suc, ◌+◌, ◌-◌, ◌≤◌, ◌<◌}
 use mathlib.Core.Path.{◌≡◌, refl}
+use mathlib.Core.Bool.{Bool, true, false}
 use mathlib.Core.List.{List}
-use mathlib.Core.Logic.{◌⊎◌, inl, inr, ⊎_elim}
+use mathlib.Core.Logic.{◌⊎◌}
 use native.Mathlib.Omega.{arith}
 use native.Mathlib.Numerals.{add-one}
+use lib.Dec.{ltb}
+use lib.ListN.{length, take, drop, length-drop}
+use Rattle.std.proofs.Common.{get_or-drop}
+use borrow.Author.Tests.{ltb-true, ltb-false}
+use Rattle.std.specs.List.{count_by, All}
+use Rattle.std.proofs.lemmas.Grind.{get_or_default_zero}
+use Rattle.std.proofs.lemmas.List.Elements.{All-take, All-drop}
+use Rattle.std.proofs.lemmas.List.Sums.{count_by_more_no, count_by_more_yes}
 use Rattle.lists.specs.Front.{at}
-use Rattle.lists.proofs.Order.{order, lt_or_ge}
+use Rattle.dataflow.specs.Counts.{sum}
 use Rattle.dataflow.specs.Search.{none, this, other}
 use Rattle.dataflow.proofs.SumLaws.{sum_before}
-use Rattle.firing.specs.Late.{Readable, last_end, LatestEnd, EndsAfter}
+use Rattle.firing.specs.Late.{Readable, end_of, last_end, EndsAfter}
 
 -- a copy's place is within the table
 pub place_of : (n : ℕ) {q base table : List ℕ} → Readable n q base table → (v : ℕ) → v < n → at base v + at q v ≤ 256
 place_of n {q} r v h = omega (arith, r.begins.is v (omega arith), sum_before (at q) v n h, r.fits)
 
-module _ (n : ℕ) (q time table : List ℕ) where
-  -- the latest finish of the first v stations, and 0 of none
-  pub record EndSoFar (v latest : ℕ) : Type 0 where
-    pub above : (u : ℕ) → u < v → last_end q time table u ≤ latest
-    pub reached : (latest ≡ 0) ⊎ ((u : ℕ) × (u < v) × (latest ≡ last_end q time table u))
+-- and behind its copies those of the next station begin
+pub next_place : (n : ℕ) {q base table : List ℕ} → Readable n q base table → (v : ℕ) → v < n → (at base (v + 1) ≡ at base v + at q v) × (at base (v + 1) ≤ 256)
+next_place n {q} {base} r v h =
+    let next : at base (v + 1) ≡ at base v + at q v = rw (r.begins.is v (omega arith), r.begins.is (v + 1) (omega arith), add-one v) refl in
+    (next, omega (arith, place_of n r v h))
 
-  pub none_seen : EndSoFar 0 0
-  none_seen = record { above = λ u h. absurd (omega arith); reached = inl refl }
+-- every start is small
+pub small_starts : (n : ℕ) {q base table : List ℕ} → Readable n q base table → (from count : ℕ) → All (λ x. x ≤ 16777216) (take count (drop from table))
+small_starts n {table = table} r from count =
+    All-take (λ x. x ≤ 16777216) count (drop from table) (All-drop (λ x. x ≤ 16777216) from table (λ k d h. rw (get_or_default_zero table k d h) (r.starts k)))
 
-  pub end_more : {v latest : ℕ} → EndSoFar v latest → EndSoFar (v + 1) (max latest (last_end q time table v))
-  end_more {v} {latest} s = record { above = above; reached = reached }
-    where
-      above : (u : ℕ) → u < v + 1 → last_end q time table u ≤ max latest (last_end q time table v)
-      above u h = order u v (λ lt. omega (arith, s.above u lt)) (λ eq. rw eq (omega arith)) (λ gt. absurd (omega arith))
+-- the latest finish of the first v stations, and 0 of none
+pub record EndSoFar (q time table : List ℕ) (v latest : ℕ) : Type 0 where
+  pub above : (u : ℕ) → u < v → last_end q time table u ≤ latest
+  pub reached : (latest ≡ 0) ⊎ ((u : ℕ) × (u < v) × (latest ≡ last_end q time table u))
 
-      reached : (max latest (last_end q time table v) ≡ 0) ⊎ ((u : ℕ) × (u < v + 1) × (max latest (last_end q time table v) ≡ last_end q time table u))
-      reached =
-          ⊎_elim
-          (λ lt. inr (v, omega arith, omega arith))
-          (λ ge. ⊎_elim (λ z. inl (omega arith)) (λ u. inr (u.0, omega (arith, u.1), omega (arith, u.2))) s.reached)
-          (lt_or_ge latest (last_end q time table v))
+-- a copy with this start finishes after the target
+abbrev pub ends_late : (target time start : ℕ) → Bool
+ends_late target time start = ltb target (start + time)
 
-  pub all_seen : {latest : ℕ} → 1 ≤ n → EndSoFar n latest → LatestEnd n q time table latest
-  all_seen some s = record { above = s.above; reached = ⊎_elim (λ z. (0, some, omega (arith, s.above 0 some))) (λ u. u) s.reached }
-
--- one copy more, which finishes after the target or not
 module _ (target from time : ℕ) (table : List ℕ) where
-  pub none_ended : EndsAfter target from time 0 table 0
-  none_ended = none
+  abbrev late : ℕ → Bool
+  late = ends_late target time
 
-  pub ends_late : {i k : ℕ} → EndsAfter target from time i table k → target < at table (from + i) + time → EndsAfter target from time (i + 1) table (k + 1)
-  ends_late {i} {k} h l = let e : suc i - 1 ≡ i = omega arith in rw (add-one i, add-one k) (this h (rw e l))
+  abbrev starts : List ℕ
+  starts = drop from table
 
-  pub ends_in_time : {i k : ℕ} → EndsAfter target from time i table k → at table (from + i) + time ≤ target → EndsAfter target from time (i + 1) table k
-  ends_in_time {i} h l = let e : suc i - 1 ≡ i = omega arith in rw (add-one i) (other h (λ x. omega (arith, rw e at x)))
+  -- the first i of the copies whose starts stand from here on, counted by their starts
+  pub ends_counted : (i : ℕ) → from + i ≤ length table → EndsAfter target from time i table (count_by late (take i starts))
+  ends_counted zero h = none
+  ends_counted (suc i) h = go (ends_counted i (omega arith)) (late (at starts i)) refl
+    where
+      room : i < length starts
+      room = omega (arith, length-drop from table)
+
+      same : end_of from time table (suc i) ≡ at starts i + time
+      same = let e : from + (suc i - 1) ≡ from + i = omega arith in rw (e, get_or-drop) refl
+
+      go : EndsAfter target from time i table (count_by late (take i starts)) → (b : Bool) → late (at starts i) ≡ b
+          → EndsAfter target from time (suc i) table (count_by late (take (suc i) starts))
+      go before true e = rw (← add-one i, count_by_more_yes late starts i 0 room e, add-one (count_by late (take i starts)), add-one i) (this before (omega (arith, same, ltb-true _ _ e)))
+      go before false e = rw (← add-one i, count_by_more_no late starts i 0 room e, add-one i) (other before (λ l. omega (arith, same, ltb-false _ _ e)))
+
+-- the copies of v stand from its base to the next one
+pub lates_of_station : (n : ℕ) {q base table : List ℕ} → Readable n q base table → length table ≡ 256 → (time : List ℕ) (target v ticks late : ℕ) → v < n → ticks ≡ at time v
+    → late ≡ count_by (ends_late target ticks) (take (at base (v + 1) - at base v) (drop (at base v) table)) → EndsAfter target (sum v (at q)) (at time v) (at q v) table late
+lates_of_station n {q} {base} {table} r long time target v ticks late h t l =
+    let from : at base v ≡ sum v (at q) = r.begins.is v (omega arith) in
+    let count : at base (v + 1) - at base v ≡ at q v = omega (arith, next_place n r v h) in
+    rw (l, count, from, t) (ends_counted target (sum v (at q)) (at time v) table (at q v) (omega (arith, place_of n r v h)))

@@ -1,15 +1,17 @@
 -- The laws of a list of firings in the making.
 use Prim.Native.Nat.{ℕ, ◌+◌, ◌*◌, ◌≤◌, ◌<◌}
-use mathlib.Core.Path.{◌≡◌, refl, ap}
+use mathlib.Core.Path.{◌≡◌, refl, ap, ◌∙◌}
 use mathlib.Core.List.{List, [], ◌∷◌, ◌++◌}
 use mathlib.Core.Bool.{Bool, true, false}
 use mathlib.Core.Logic.{⊎_elim}
 use native.Mathlib.Omega.{arith}
-use lib.ListN.{length, set, drop, replicate, length-set, length-append}
+use lib.ListN.{length, set, take, drop, replicate, length-set, length-append, length-take}
+use lib.Seq.{get_or-take}
+use Rattle.std.specs.Prelude.{Some, None}
 use Rattle.lists.specs.Front.{at}
 use Rattle.lists.specs.Put.{put}
 use Rattle.lists.proofs.Order.{lt_or_ge}
-use Rattle.lists.proofs.PutLaws.{put_nothing, put_one_more, put_front, length_put}
+use Rattle.lists.proofs.PutLaws.{put_nothing, put_one_more, put_front}
 use Rattle.lists.proofs.StoreLaws.{at_zeros}
 use Rattle.lists.proofs.TestLaws.{differ}
 use Rattle.dataflow.specs.Net.{Net}
@@ -21,6 +23,12 @@ use Rattle.dataflow.proofs.PrefixLaws.{fired_stored, prefix_next, prefix_few, pr
 use Rattle.chain.specs.Chain.{net_of, delays_of}
 use Rattle.firing.specs.Scan.{Fed, Can, LowestThatCan}
 use Rattle.firing.specs.Fire.{Wanted, Fires}
+
+-- an entry of a list's front is one of the list
+pub entry_of : (list : List ℕ) (total k v : ℕ) → k < length (take total list) → v ≡ at (take total list) k → (k < total) × (v ≡ at list k)
+entry_of list total k v h is =
+    let b : k < total = omega (arith, length-take total list) in
+    (b, is ∙ get_or-take total list k 0 b)
 
 module _ (n m : ℕ) (source sink produced consumed delay : List ℕ) where
   abbrev G : List ℕ → List ℕ → Net
@@ -64,10 +72,10 @@ module _ (n m : ℕ) (source sink produced consumed delay : List ℕ) where
           let few : at fired v ≤ at wanted v = omega (arith, z.is [] [] v, prefix_few (G [] []) D (at wanted) (z.prefix [] []) v) in
           ⊎_elim (λ l. omega (arith, sum_above n (at wanted) v l, w.adds, w.few)) (λ l. omega (arith, w.beyond v l)) (lt_or_ge v n)
 
-      pub kept_length : length list ≡ length before
-      kept_length = rw z.stored (length_put before 0 z.made)
+      module _ (v : ℕ) (few : n ≤ 32) (low : LowestThatCan (Can m source sink produced consumed delay wanted fired) n (Some v)) where
+        here : v < n
+        here = low.within v refl
 
-      module _ (v : ℕ) (here : v < n) (few : n ≤ 32) (low : LowestThatCan (Can m source sink produced consumed delay wanted fired) n v) where
         -- the lowest station that can fires next and is stored
         pub one_more : SoFar (set list k v) (set fired v (at fired v + 1)) (k + 1)
         one_more = record {
@@ -76,13 +84,13 @@ module _ (n m : ℕ) (source sink produced consumed delay : List ℕ) where
           long = omega (arith, length-append z.made (v ∷ []), z.long);
           stored = let p : k ≡ 0 + length z.made = omega (arith, z.long) in rw (z.stored, p) (put_one_more before 0 z.made v);
           prefix = λ time q.
-              prefix_next (G time q) D (at wanted) (z.prefix time q) v here (omega (arith, z.is time q v, (low.can here).left)) (fed_by time q fired (fired_by (G time q) D z.made) (z.is time q) v (low.can here).fed)
+              prefix_next (G time q) D (at wanted) (z.prefix time q) v here (omega (arith, z.is time q v, (low.can v refl).left)) (fed_by time q fired (fired_by (G time q) D z.made) (z.is time q) v (low.can v refl).fed)
               (λ w l a f. low.below w l (record { left = omega (arith, z.is time q w); fed = by_fed time q fired (fired_by (G time q) D z.made) (z.is time q) w f }));
-          is = λ time q. fired_stored (G time q) D z.made fired v 1 (omega (arith, z.wide)) (z.is time q);
+          is = λ time q. fired_stored (G time q) D z.made fired v 1 (omega (arith, z.wide, here)) (z.is time q);
         }
 
       -- no station can, and some are left
-      pub stalled : k < total → LowestThatCan (Can m source sink produced consumed delay wanted fired) n n → Wanted n wanted total → Fires n m source sink produced consumed delay wanted total false before list
+      pub stalled : k < total → LowestThatCan (Can m source sink produced consumed delay wanted fired) n None → Wanted n wanted total → Fires n m source sink produced consumed delay wanted total false before list
       stalled h low w = record {
         made = z.made;
         stored = z.stored;

@@ -14,7 +14,9 @@ use Rattle.lists.proofs.Order.{order, lt_or_ge}
 use Rattle.dataflow.specs.Counts.{sum}
 use Rattle.dataflow.proofs.SumLaws.{sum_before}
 use Rattle.chain.specs.Chain.{CountedChain}
-use Rattle.firing.specs.Thread.{FirstAt}
+use Rattle.chain.specs.declared.round.Round.{Round}
+use Rattle.chain.specs.Thread.{FirstAt}
+use Rattle.chain.proofs.ChainLaws.{count_few}
 use Rattle.firing.specs.Walk.{Gives, first_token, taker_entry, Hands, Given, Pushes}
 
 -- the copy that takes the token is one of the round's, and has its entry
@@ -36,13 +38,6 @@ module _ (m : ℕ) (source sink produced consumed delay q : List ℕ) (v copy fi
     pub within : e ≤ m
     pub goes : e < m → at source e ≡ v
     pub pushes : Pushes source sink produced consumed delay q v copy finish e before table
-
-  pub push_none : {r : ℕ} → FirstAt m source v 0 r → PushedBelow r before
-  push_none f = record {
-    within = f.within;
-    goes = f.goes;
-    pushes = record { long = refl; rises = λ k. omega arith; reached = λ e h z. absurd (f.passed e (omega arith) h z.from); is = λ k. inl refl };
-  }
 
   module _ (e : ℕ) (h : e < m) {r : ℕ} (f : FirstAt m source (at source e) (suc e) r) {table : List ℕ} (b : PushedBelow e table) where
     given_still : (k x : ℕ) → (x ≡ at before k) ⊎ GivenBelow e k x → (x ≡ at before k) ⊎ GivenBelow r k x
@@ -108,14 +103,13 @@ module _ (m : ℕ) (source sink produced consumed delay q : List ℕ) (v copy fi
             let x = (div-lt_iff_lt-mul some).1 l in
             ⊎_elim (λ a. rw (g'.given l a) (push_more l (omega arith) a)) (λ a. rw (g'.as_late a) (push_pass (λ z. a))) (lt_or_ge (at table (taker e)) finish)
 
-  pub push_all : {e : ℕ} {table : List ℕ} → PushedBelow e table → m ≤ e → Pushes source sink produced consumed delay q v copy finish m before table
-  push_all {e} b h = let same : e ≡ m = omega (arith, b.within) in rw same at b.pushes
-
--- a finish in other words
-pub push_same : {m : ℕ} {source sink produced consumed delay q : List ℕ} {v copy : ℕ} {before after : List ℕ} (finish finish' : ℕ) → finish ≡ finish'
-    → Pushes source sink produced consumed delay q v copy finish m before after → Pushes source sink produced consumed delay q v copy finish' m before after
-push_same finish finish' e p = rw e at p
-
 -- the copies of a station have their entries in the table
 pub copies_fit : {n m total : ℕ} {source sink produced consumed q : List ℕ} → CountedChain n m source sink produced consumed q total → (v : ℕ) → v < n → sum v (at q) + at q v ≤ 256
 copies_fit {n} {q = q} c v h = omega (arith, sum_before (at q) v n h, c.adds, c.few)
+
+pub few_copies : (r : Round) (v : ℕ) → at r.q v ≤ 256
+few_copies r v = count_few r.counted v
+
+-- from its base on
+pub placed : (r : Round) (v : ℕ) → v < r.chain.n → at r.base v + at r.q v ≤ 256
+placed r v h = omega (arith, copies_fit r.counted v h, r.begins.is v)

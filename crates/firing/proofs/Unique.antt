@@ -3,13 +3,13 @@ use Prim.Native.Nat.{ℕ, suc, ◌+◌, ◌-◌, ◌≤◌, ◌<◌}
 use mathlib.Core.Path.{◌≡◌, refl, sym, ap, ◌∙◌}
 use mathlib.Core.Bool.{Bool, true, false}
 use mathlib.Core.List.{List, []}
-use mathlib.Core.Logic.{⊎_elim}
 use native.Mathlib.Omega.{arith}
 use lib.ListN.{length}
-use lib.Seq.{ext_get_or, take_all}
+use lib.Seq.{take_all}
+use Rattle.std.specs.Prelude.{Option, Some, None}
 use Rattle.lists.specs.Front.{at}
 use Rattle.lists.specs.Put.{put}
-use Rattle.lists.proofs.Order.{order, lt_or_ge}
+use Rattle.lists.proofs.Order.{order}
 use Rattle.lists.proofs.FilledLaws.{same_list, filled_once}
 use Rattle.dataflow.specs.Net.{Net}
 use Rattle.dataflow.specs.Counts.{sum}
@@ -20,46 +20,19 @@ use Rattle.dataflow.proofs.PrefixLaws.{prefix_front, prefix_longest}
 use Rattle.dataflow.proofs.SumLaws.{sum_none, sum_place}
 use Rattle.dataflow.proofs.TimeLaws.{times_once}
 use Rattle.chain.specs.Chain.{CountedChain, net_of, delays_of}
-use Rattle.firing.specs.Thread.{FirstAt, Threads}
 use Rattle.firing.specs.Scan.{LowestThatCan}
 use Rattle.firing.specs.Fire.{Wanted, Fires}
-use Rattle.firing.specs.Times.{Bases, Ordered, Tabled}
+use Rattle.firing.specs.Times.{Ordered, Tabled}
 use Rattle.firing.specs.Late.{LatestEnd, LateCounts}
 use Rattle.chain.proofs.ChainLaws.{sound}
 use Rattle.firing.proofs.PeriodLaws.{ranked}
 
--- of the threads
-first_at_once : (m : ℕ) (ends : List ℕ) (v from r r' : ℕ) → FirstAt m ends v from r → FirstAt m ends v from r' → r ≡ r'
-first_at_once m ends v from r r' p q =
-    order r r'
-    (λ lt. absurd (q.passed r p.ahead lt (p.goes (omega (arith, q.within)))))
-    (λ eq. eq)
-    (λ gt. absurd (p.passed r' q.ahead gt (q.goes (omega (arith, p.within)))))
-
-module _ (n m : ℕ) (ends head next head' next' : List ℕ) (p : Threads n m ends head next) (q : Threads n m ends head' next') where
-  pub heads_unique : length head ≡ 32 → length head' ≡ 32 → head ≡ head'
-  heads_unique l l' =
-      ext_get_or 0 head head' (l ∙ sym l')
-      (λ v h. ⊎_elim (λ b. first_at_once m ends v 0 _ _ (p.first v b) (q.first v b)) (λ b. p.no_station v b (omega arith) ∙ sym (q.no_station v b (omega arith))) (lt_or_ge v n))
-
-  pub nexts_unique : length next ≡ 64 → length next' ≡ 64 → next ≡ next'
-  nexts_unique l l' =
-      ext_get_or 0 next next' (l ∙ sym l')
-      (λ e h. ⊎_elim (λ b. first_at_once m ends (at ends e) (suc e) _ _ (p.more e b) (q.more e b)) (λ b. p.no_queue e b (omega arith) ∙ sym (q.no_queue e b (omega arith))) (lt_or_ge e m))
-
 -- of the ready scan
-pub ready_unique : (P : ℕ → Type 0) (n r r' : ℕ) → LowestThatCan P n r → LowestThatCan P n r' → r ≡ r'
-ready_unique P n r r' p q =
-    order r r'
-    (λ lt. absurd (q.below r lt (p.can (omega (arith, q.within)))))
-    (λ eq. eq)
-    (λ gt. absurd (p.below r' gt (q.can (omega (arith, p.within)))))
-
--- of where the copies begin
-pub bases_unique : (n : ℕ) (q base base' : List ℕ) → Bases n q base → Bases n q base' → length base ≡ length base' → base ≡ base'
-bases_unique n q base base' p p' l =
-    ext_get_or 0 base base' l
-    (λ v h. ⊎_elim (λ b. p.rest v b ∙ sym (p'.rest v b)) (λ b. p.is v b ∙ sym (p'.is v b)) (lt_or_ge n v))
+pub ready_unique : (P : ℕ → Type 0) (n : ℕ) (r r' : Option ℕ) → LowestThatCan P n r → LowestThatCan P n r' → r ≡ r'
+ready_unique P n None None p q = refl
+ready_unique P n None (Some w) p q = absurd (p.below w (q.within w refl) (q.can w refl))
+ready_unique P n (Some v) None p q = absurd (q.below v (p.within v refl) (p.can v refl))
+ready_unique P n (Some v) (Some w) p q = order v w (λ lt. absurd (q.below v lt (p.can v refl))) (ap Some) (λ gt. absurd (p.below w gt (q.can w refl)))
 
 -- of a list of firings, and of what the lent list holds then
 module _ (n m : ℕ) (source sink produced consumed delay wanted : List ℕ) (total : ℕ) (w : Wanted n wanted total) (before : List ℕ) where

@@ -30,8 +30,7 @@ use Rattle.dataflow.proofs.TakerLaws.{FirstTaker, taker_is, taker_once}
 use Rattle.dataflow.proofs.WalkLaws.{AllPut, OneMore, Walked, HandedOn, PushesOn, walked_none, walked_follows, walked_pushes, walked_ends}
 use Rattle.chain.specs.Chain.{CountedChain, net_of, delays_of}
 use Rattle.chain.proofs.ChainLaws.{sound}
-use Rattle.firing.specs.Thread.{Threads}
-use Rattle.firing.specs.Times.{Bases, Ordered, Tabled}
+use Rattle.firing.specs.Times.{Ordered, Tabled}
 use Rattle.firing.specs.Walk.{Follows, first_token, taker_entry, Given, Pushes, Walkable, Walks}
 
 -- two copies, counted from 0, with one entry are one
@@ -233,15 +232,13 @@ module _ (n m : ℕ) (source sink produced consumed delay time q : List ℕ) (to
 
       -- What one copy of the walk asks for, and where it leads; w is the entry k.
       module _ {table fired : List ℕ} (z : WalkedSoFar table fired k) (w : ℕ) (is : w ≡ at list k) where
-        pub walkable : {base head next : List ℕ} → Bases n q base → ((e : ℕ) → at delay e < 2 ^ 30) → Threads n m source head next → Walkable n m source delay q base head next w (at fired w) table
-        walkable b small out =
+        pub walkable : ((e : ℕ) → at delay e < 2 ^ 30) → Walkable n delay q w (at fired w) table
+        walkable small =
             rw is
             (record {
               here = here;
               left = next z;
-              begins = b;
               delays = small;
-              out = out;
               long = z.long;
               starts = λ j. let few : k ≤ 256 = omega (arith, c.few) in omega (arith, z.bound j, mul-le-mul_right 65535 few);
             })

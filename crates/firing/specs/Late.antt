@@ -4,7 +4,7 @@ use Rattle.lists.specs.Front.{at}
 use Rattle.lists.specs.Filled.{Filled}
 use Rattle.dataflow.specs.Counts.{sum}
 use Rattle.dataflow.specs.Search.{HowMany}
-use Rattle.firing.specs.Times.{Bases}
+use Rattle.chain.specs.Bases.{Bases}
 
 -- a table with a place for each copy, and starts that are small enough
 pub record Readable (n : ℕ) (q base table : List ℕ) : Type 0 where

@@ -1,6 +1,7 @@
 -- The station that fires next, by the numbers of firings done.
-use Rattle.std.specs.Prelude.{ℕ, ◌+◌, ◌*◌, ◌≤◌, ◌<◌, ◌^◌, ◌≡◌, List}
+use Rattle.std.specs.Prelude.{ℕ, ◌+◌, ◌*◌, ◌≤◌, ◌<◌, ◌^◌, ◌≡◌, List, Option, Some}
 use Rattle.lists.specs.Front.{at}
+use Rattle.lists.specs.Lowest.{ended}
 
 -- every queue into v has the tokens of one more firing of v
 abbrev pub Fed : (m : ℕ) (source sink produced consumed delay fired : List ℕ) (v : ℕ) → Type 0
@@ -12,11 +13,11 @@ pub record Can (m : ℕ) (source sink produced consumed delay wanted fired : Lis
   pub left : at fired v < at wanted v
   pub fed : Fed m source sink produced consumed delay fired v
 
--- r is the lowest station that can fire, or n
-pub record LowestThatCan (P : ℕ → Type 0) (n r : ℕ) : Type 0 where
-  pub within : r ≤ n
-  pub below : (w : ℕ) → w < r → P w → ⊥
-  pub can : r < n → P r
+-- r is the lowest of the n stations that can fire, if there is one
+pub record LowestThatCan (P : ℕ → Type 0) (n : ℕ) (r : Option ℕ) : Type 0 where
+  pub below : (w : ℕ) → w < ended n r → P w → ⊥
+  pub within : (v : ℕ) → r ≡ Some v → v < n
+  pub can : (v : ℕ) → r ≡ Some v → P v
 
 -- firings and delays are small enough for their products to fit
 pub record Small (delay fired : List ℕ) : Type 0 where

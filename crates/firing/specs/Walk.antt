@@ -2,8 +2,6 @@
 use Rattle.std.specs.Prelude.{ℕ, ◌+◌, ◌-◌, ◌*◌, ◌/◌, ◌≤◌, ◌<◌, ◌^◌, ◌≡◌, List, ◌⊎◌, length, set}
 use Rattle.lists.specs.Front.{at}
 use Rattle.dataflow.specs.Counts.{sum}
-use Rattle.firing.specs.Thread.{Threads}
-use Rattle.firing.specs.Times.{Bases}
 
 -- nothing later than the start of the copy before it was pushed into the copy with this entry
 pub record Follows (copy entry : ℕ) (table : List ℕ) : Type 0 where
@@ -46,13 +44,11 @@ module _ (source sink produced consumed delay q : List ℕ) (v copy finish : ℕ
     pub reached : (e : ℕ) → e < bound → Hands e → finish ≤ at after (taker_entry sink produced consumed delay q copy e)
     pub is : (k : ℕ) → (at after k ≡ at before k) ⊎ Given bound k (at after k)
 
--- a table in the making that has an entry for the copy, with starts that are small enough; threads through the queues out of each station
-pub record Walkable (n m : ℕ) (source delay q base head next : List ℕ) (v copy : ℕ) (table : List ℕ) : Type 0 where
+-- a table in the making that has an entry for the copy, with starts that are small enough
+pub record Walkable (n : ℕ) (delay q : List ℕ) (v copy : ℕ) (table : List ℕ) : Type 0 where
   pub here : v < n
   pub left : copy < at q v
-  pub begins : Bases n q base
   pub delays : (e : ℕ) → at delay e < 2 ^ 30
-  pub out : Threads n m source head next
   pub long : length table ≡ 256
   pub starts : (k : ℕ) → at table k ≤ 16777216
 

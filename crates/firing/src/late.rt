@@ -1,11 +1,8 @@
 // The period and the late copies, from a time table.
-ghost use Rattle.std.specs.Prelude.{ℕ, ◌+◌, ◌≤◌, ◌<◌};
-ghost use Rattle.lists.specs.Front.{at};
-ghost use Rattle.firing.specs.Late.{Readable, LatestEnd, EndsAfter, LateCounts};
+ghost use Rattle.std.specs.Prelude.{◌≡◌, ◌+◌, ◌≤◌, ◌<◌, nat_lt, length, count_by, All};
+ghost use Rattle.firing.specs.Late.{Readable, LatestEnd, LateCounts};
 
-use chain::{larger, wide32};
-
-// The latest finish, which is that of the last copy of some station. One step for each station.
+// The latest finish, which is that of the last copy of some station. One step for each station. Not a method of `Round`, which asks more than `Readable` does; nor is `late_counts`.
 pub fn latest_end(
     n: usize,
     q: &[u32; 32],
@@ -19,20 +16,20 @@ pub fn latest_end(
     let mut latest = 0;
     for v in 0..n {
         let place = (base[v] + q[v] - 1) as usize;
-        latest = larger(latest, table[place] + wide32(time[v]));
+        latest = latest.max(table[place] + u32::from(time[v]));
     }
     latest
 }
 
-// How many of a station's copies, which stand in the table from this place on, finish after the target. One step for each copy.
-fn late_of(count: u32, from: u32, time: u32, target: u32, table: &[u32; 256]) -> u32
-    requires { (from + count ≤ 256) × ((time < 65536) × ((k : ℕ) → at table.now k ≤ 16777216)) }
-    ensures { EndsAfter target from time count table.now result }
+// How many of the copies with these starts finish after the target. One step for each.
+fn late_of(starts: &[u32], time: u32, target: u32) -> u32
+    requires { (length starts.now ≤ 256) × ((time < 65536) × All (λ x. x ≤ 16777216) starts.now) }
+    ensures { result ≡ count_by (λ x. nat_lt target (x + time)) starts.now }
 {
+    // A loop, since the search takes up to a tenth longer with filter and count here.
     let mut late = 0;
-    for i in 0..count {
-        let place = (from + i) as usize;
-        if target < table[place] + time {
+    for start in starts {
+        if target < *start + time {
             late += 1;
         }
     }
@@ -52,8 +49,10 @@ pub fn late_counts(
     ensures { LateCounts n q.now time.now target table.now result }
 {
     let mut late = [0u32; 32];
+    // By place, as in `chain::widened`; and `from_fn` would need a test for the entries that stay 0.
     for v in 0..n {
-        late[v] = late_of(q[v], base[v], wide32(time[v]), target, table);
+        let starts = &table[base[v] as usize..base[v + 1] as usize];
+        late[v] = late_of(starts, u32::from(time[v]), target);
     }
     late
 }

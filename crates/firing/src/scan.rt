@@ -1,11 +1,9 @@
 // The ready scan.
 ghost use Rattle.std.specs.Prelude.{◌+◌, ◌*◌, ◌≤◌, ◌<◌, ◌^◌};
 ghost use Rattle.lists.specs.Test.{Tells};
-ghost use Rattle.chain.specs.Chain.{Chain};
-ghost use Rattle.firing.specs.Thread.{Threads};
-ghost use Rattle.firing.specs.Scan.{Can, LowestThatCan, Small};
+ghost use Rattle.firing.specs.Scan.{Fed, Can, LowestThatCan, Small};
 
-use chain::{wide, wide32};
+use chain::Chain;
 
 // A queue holds fewer tokens than one more firing of its sink takes. Two products.
 fn short(delay: u32, made: u32, produced: u32, taken: u32, consumed: u32) -> bool
@@ -15,47 +13,42 @@ fn short(delay: u32, made: u32, produced: u32, taken: u32, consumed: u32) -> boo
     delay + made * produced < (taken + 1) * consumed
 }
 
-// The lowest-numbered station that has firings left and enough tokens on every incoming queue, or n. At most n stations and m queues are looked at.
+// Whether every queue into v holds the tokens of one more firing of v. One step for each of them.
+fn fed(chain: &Chain, delay: &[u32; 64], fired: &[u32; 32], v: usize) -> bool
+    requires { (v < chain.now.n) × Small delay.now fired.now }
+    ensures { Tells result (Fed chain.now.m chain.now.source chain.now.sink chain.now.produced chain.now.consumed delay.now fired.now v) }
+{
+    let mut e = usize::from(chain.into.head[v]);
+    while e < chain.m {
+        let u = usize::from(chain.source[e]);
+        if short(
+            delay[e],
+            fired[u],
+            u32::from(chain.produced[e]),
+            fired[v],
+            u32::from(chain.consumed[e]),
+        ) {
+            return false;
+        }
+        e = usize::from(chain.into.next[e]);
+    }
+    true
+}
+
+// The lowest-numbered station that has firings left and is fed. At most n stations and m queues are looked at.
 pub(crate) fn ready(
-    n: usize,
-    m: usize,
-    source: &[u16; 64],
-    sink: &[u16; 64],
-    produced: &[u16; 64],
-    consumed: &[u16; 64],
+    chain: &Chain,
     delay: &[u32; 64],
-    head: &[u16; 32],
-    next: &[u16; 64],
     wanted: &[u32; 32],
     fired: &[u32; 32],
-) -> usize
-    requires { Chain n m source.now sink.now produced.now consumed.now × (Threads n m sink.now head.now next.now × Small delay.now fired.now) }
-    ensures { LowestThatCan (Can m source.now sink.now produced.now consumed.now delay.now wanted.now fired.now) n result }
+) -> Option<usize>
+    requires { Small delay.now fired.now }
+    ensures { LowestThatCan (Can chain.now.m chain.now.source chain.now.sink chain.now.produced chain.now.consumed delay.now wanted.now fired.now) chain.now.n result }
 {
-    let mut later = 0;
-    'stations: loop {
-        let v = later;
-        if n <= v {
-            break n;
+    for v in 0..chain.n {
+        if fired[v] < wanted[v] && fed(chain, delay, fired, v) {
+            return Some(v);
         }
-        later = v + 1;
-        if wanted[v] <= fired[v] {
-            continue 'stations;
-        }
-        let mut e = wide(head[v]);
-        while e < m {
-            let u = wide(source[e]);
-            if short(
-                delay[e],
-                fired[u],
-                wide32(produced[e]),
-                fired[v],
-                wide32(consumed[e]),
-            ) {
-                continue 'stations;
-            }
-            e = wide(next[e]);
-        }
-        break v;
     }
+    None
 }

@@ -1,10 +1,9 @@
 // The forward walk: a copy hands its finish on by the first token that it puts on each queue.
 ghost use Rattle.std.specs.Prelude.{◌≡◌, ◌+◌, ◌*◌, ◌≤◌, ◌<◌, ◌^◌, length};
 ghost use Rattle.lists.specs.Test.{Tells};
-ghost use Rattle.chain.specs.Chain.{CountedChain};
 ghost use Rattle.firing.specs.Walk.{Follows, Gives, Pushes, Walkable, Walks};
 
-use chain::{wide, wide32};
+use chain::Round;
 
 // Whether nothing later than the start of the copy before it was pushed into a copy, counted from 0, with this entry.
 fn follows(copy: u32, entry: usize, table: &[u32; 256]) -> bool
@@ -40,67 +39,49 @@ fn give(token: u32, consumed: u32, from: u32, count: u32, finish: u32, table: &m
 }
 
 // Pushes the finish of a copy of v into the copies of this round that take its first tokens. One step for each queue out of v.
-fn push(
-    n: usize,
-    m: usize,
-    total: usize,
-    v: usize,
-    copy: u32,
-    finish: u32,
-    source: &[u16; 64],
-    sink: &[u16; 64],
-    produced: &[u16; 64],
-    consumed: &[u16; 64],
-    delay: &[u32; 64],
-    head: &[u16; 32],
-    next: &[u16; 64],
-    q: &[u32; 32],
-    base: &[u32; 33],
-    table: &mut [u32; 256],
-)
-    requires { CountedChain n m source.now sink.now produced.now consumed.now q.now total × Walkable n m source.now delay.now q.now base.now head.now next.now v copy table.old }
-    ensures { Pushes source.now sink.now produced.now consumed.now delay.now q.now v copy finish m table.old table.new }
+#[tactic(auto, using(crate::proofs::PushLaws::placed, crate::proofs::PushLaws::few_copies))]
+fn push(round: &Round, delay: &[u32; 64], v: usize, copy: u32, finish: u32, table: &mut [u32; 256])
+    requires { Walkable round.now.chain.n delay.now round.now.q v copy table.old }
+    ensures { Pushes round.now.chain.source round.now.chain.sink round.now.chain.produced round.now.chain.consumed delay.now round.now.q v copy finish round.now.chain.m table.old table.new }
 {
-    let mut e = wide(head[v]);
+    let chain = &round.chain;
+    // Read once, since the search takes up to a sixth longer where this loop, which writes the table, reads m behind the reference each time.
+    let m = chain.m;
+    let mut e = usize::from(chain.out.head[v]);
     while e < m {
-        let token = first_token(delay[e], copy, wide32(produced[e]));
-        let w = wide(sink[e]);
-        give(token, wide32(consumed[e]), base[w], q[w], finish, table);
-        e = wide(next[e]);
+        let token = first_token(delay[e], copy, u32::from(chain.produced[e]));
+        let w = usize::from(chain.sink[e]);
+        give(
+            token,
+            u32::from(chain.consumed[e]),
+            round.base[w],
+            round.q[w],
+            finish,
+            table,
+        );
+        e = usize::from(chain.out.next[e]);
     }
 }
 
 // Finds the start of a copy of v, into which all that comes before it was pushed, and pushes its finish on. A copy that starts with the copy before it has nothing to push: that copy, or one
 // that it started with, pushed the same finish, and into copies that are no later. One step, and at most one for each queue out of v.
+#[tactic(auto, using(crate::proofs::PushLaws::placed))]
 pub(crate) fn walk_copy(
-    n: usize,
-    m: usize,
-    total: usize,
+    round: &Round,
+    time: &[u16; 32],
+    delay: &[u32; 64],
     v: usize,
     copy: u32,
-    source: &[u16; 64],
-    sink: &[u16; 64],
-    produced: &[u16; 64],
-    consumed: &[u16; 64],
-    delay: &[u32; 64],
-    head: &[u16; 32],
-    next: &[u16; 64],
-    q: &[u32; 32],
-    base: &[u32; 33],
-    time: &[u16; 32],
     table: &mut [u32; 256],
 )
-    requires { CountedChain n m source.now sink.now produced.now consumed.now q.now total × Walkable n m source.now delay.now q.now base.now head.now next.now v copy table.old }
-    ensures { Walks m source.now sink.now produced.now consumed.now delay.now time.now q.now v copy table.old table.new }
+    requires { Walkable round.now.chain.n delay.now round.now.q v copy table.old }
+    ensures { Walks round.now.chain.m round.now.chain.source round.now.chain.sink round.now.chain.produced round.now.chain.consumed delay.now time.now round.now.q v copy table.old table.new }
 {
-    let entry = (base[v] + copy) as usize;
+    let entry = (round.base[v] + copy) as usize;
     if follows(copy, entry, table) {
         table[entry] = table[entry - 1];
     } else {
-        let finish = table[entry] + wide32(time[v]);
-        push(
-            n, m, total, v, copy, finish, source, sink, produced, consumed, delay, head, next, q,
-            base, table,
-        );
+        let finish = table[entry] + u32::from(time[v]);
+        push(round, delay, v, copy, finish, table);
     }
 }

@@ -1,4 +1,3 @@
 pub mod ShiftLaws
-pub mod LowestLaws
 pub mod TrialLaws
 pub mod Unique

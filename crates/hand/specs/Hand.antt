@@ -1,22 +1,15 @@
 -- What a hand check answers: refusals 1 to 8 with 16, and 12 to 14, or the resulting period.
-use Rattle.std.specs.Prelude.{ℕ, refl, List, [], ◌∷◌, ◌++◌, ℤ}
+use Rattle.std.specs.Prelude.{ℕ, List, [], ◌∷◌, ◌++◌, ℤ, Result}
 use Rattle.refusals.specs.Table.{slow}
 use Rattle.refusals.specs.First.{Row}
-use Rattle.refusals.specs.Answer.{Kind, Answers}
+use Rattle.refusals.specs.Refused.{Answered}
+use Rattle.refusals.specs.declared.refusal.Refusal.{Refusal}
 use Rattle.dataflow.specs.Promise.{HandPromise}
 use Rattle.dataflow.specs.Refusals as nets
 use Rattle.dataflow.specs.Retiming.{by_hand, retimed}
 use Rattle.sheet.specs.declared.Sheet.{Sheet}
 use Rattle.sheet.specs.Format.{sheet_of}
 use Rattle.checks.specs.Check.{net_for, delays_for, CountsOf, counted_row, check_rows}
-use Rattle.hand.specs.declared.HandPeriod.{HandPeriod}
-
--- number and place, and the period 0
-abbrev pub refused_by : (number place : ℕ) → HandPeriod
-refused_by number place = record { number = number; place = place; period = 0 }
-
-abbrev pub hand_kind : Kind HandPeriod
-hand_kind = record { number = λ a. a.number; place = λ a. a.place; refusal = refused_by; tells_number = λ k p. refl; tells_place = λ k p. refl }
 
 -- 12 and 13; the counts play no part in them
 abbrev pub hand_row : Sheet → List ℤ → Row
@@ -34,11 +27,11 @@ abbrev pub hand_rows : Sheet → List ℤ → List Row
 hand_rows f l = hand_row f l ∷ negative_row f l ∷ slow_row f l ∷ []
 
 -- the period that the hand list l gives the sheet f
-pub record Tried (f : Sheet) (l : List ℤ) (a : HandPeriod) : Type 0 where
+pub record Tried (f : Sheet) (l : List ℤ) (period : ℕ) : Type 0 where
   pub q : List ℕ
   pub counts : CountsOf f q
-  pub promise : HandPromise (net_for f q) (delays_for f q) f.target (by_hand l) a.period
+  pub promise : HandPromise (net_for f q) (delays_for f q) f.target (by_hand l) period
 
 -- the check of the hand list l, for a sheet's bytes
-abbrev pub HandChecks : (s : List ℕ) (l : List ℤ) → HandPeriod → Type 0
-HandChecks s l = Answers hand_kind (check_rows s ++ hand_rows (sheet_of s) l) (Tried (sheet_of s) l)
+abbrev pub HandChecks : (s : List ℕ) (l : List ℤ) → Result ℕ Refusal → Type 0
+HandChecks s l = Answered (check_rows s ++ hand_rows (sheet_of s) l) (Tried (sheet_of s) l)

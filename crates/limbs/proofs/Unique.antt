@@ -5,13 +5,13 @@ use mathlib.Core.Bool.{Bool}
 use mathlib.Core.List.{List}
 use Rattle.lists.specs.Test.{Tells}
 use Rattle.lists.proofs.TestLaws.{tells_once}
-use Rattle.limbs.specs.Value.{value, StandsFor}
+use Rattle.limbs.specs.Value.{StandsFor}
 use Rattle.limbs.proofs.ValueLaws.{same_limbs}
 
--- of a rate as limbs, and of a product
+-- of the limbs that a number stands in: those of a rate, and of a product
 pub stands_for_unique : (x : ℕ) (l l' : List ℕ) → StandsFor l x → StandsFor l' x → l ≡ l'
 stands_for_unique x l l' p q = same_limbs l l' (p.proper.long ∙ sym q.proper.long) p.proper.small q.proper.small (p.is ∙ sym q.is)
 
 -- of the test whether two numbers are equal
-pub same_unique : (l o : List ℕ) (r r' : Bool) → Tells r (value l ≡ value o) → Tells r' (value l ≡ value o) → r ≡ r'
-same_unique l o = tells_once
+pub same_unique : (x y : ℕ) (r r' : Bool) → Tells r (x ≡ y) → Tells r' (x ≡ y) → r ≡ r'
+same_unique x y = tells_once

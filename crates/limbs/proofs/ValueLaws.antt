@@ -1,23 +1,14 @@
 -- What the limbs of a product and of equal numbers are.
-use Prim.Native.Nat.{ℕ, zero, suc, ◌+◌, ◌*◌, ◌/◌, ◌%◌, ◌≤◌, ◌<◌}
-use mathlib.Core.Path.{◌≡◌, refl, sym, ap, ◌∙◌}
-use mathlib.Core.List.{List, [], ◌∷◌}
-use native.Mathlib.Nat.{mul-le-mul, mul-zero, add-zero}
-use native.Mathlib.Omega.{arith}
-use lib.ListN.{length, set}
+use Rattle.std.specs.Str.{bytes_eq}
+use Rattle.std.proofs.Common.{◌≡◌, ℕ, zero, suc, ◌+◌, ◌*◌, ◌/◌, ◌%◌, ◌<◌, Bool, nat_eq, List, [], ◌∷◌, length, refl, sym, ap, ◌∙◌, add-zero, arith}
+use Rattle.std.proofs.Math.Nat.{mul-zero}
+use Rattle.std.proofs.lemmas.Bool.{eqb-true, eqb-false}
+use Rattle.std.proofs.lemmas.Bool.Decides.{same_from_decides, Decides-like, Decides-eqb}
+use Rattle.std.proofs.lemmas.Slice.Eq.{bytes_eq-Decides}
 use Rattle.lists.specs.Front.{at}
-use Rattle.limbs.specs.Value.{base, limit, value, Proper, StandsFor}
+use Rattle.lists.specs.Test.{Tells}
+use Rattle.limbs.specs.Value.{base, limit, value, Proper}
 use Rattle.limbs.proofs.DigitLaws.{carried, shorter, same_rest, same_digit}
-
--- a limb of a product, and with the carry of the one below it
-pub product_small : {limb rate : ℕ} → limb < base → rate ≤ 64 → limb * rate ≤ 4611686018427387840
-product_small {limb} {rate} h k = let a : limb * rate ≤ 72057594037927935 * 64 = mul-le-mul {n₂ = 72057594037927935} (omega arith) k in a
-
-pub sum_small : {product carry : ℕ} → product ≤ 4611686018427387840 → carry ≤ 64 → product + carry < 18446744073709551616
-sum_small h k = omega arith
-
-pub carry_small : {product carry : ℕ} → product ≤ 4611686018427387840 → carry ≤ 64 → (product + carry) / base ≤ 64
-carry_small h k = omega arith
 
 -- equal numbers of as many limbs are the same limbs
 pub same_limbs : (l o : List ℕ) → length l ≡ length o → ((i : ℕ) → at l i < base) → ((i : ℕ) → at o i < base) → value l ≡ value o → l ≡ o
@@ -46,18 +37,15 @@ value_is : (a b c d : ℕ) → value (a ∷ b ∷ c ∷ d ∷ []) ≡ digits a b
 unfolding value
 value_is a b c d = rw (mul-zero, add-zero) refl
 
-proper : (a b c d : ℕ) → a < base → b < base → c < base → d < base → (i : ℕ) → at (a ∷ b ∷ c ∷ d ∷ []) i < base
-proper a b c d p q r s zero = p
-proper a b c d p q r s (suc zero) = q
-proper a b c d p q r s (suc (suc zero)) = r
-proper a b c d p q r s (suc (suc (suc zero))) = s
-proper a b c d p q r s (suc (suc (suc (suc i)))) = omega arith
+pub four_small : (a b c d : ℕ) → a < base → b < base → c < base → d < base → (i : ℕ) → at (a ∷ b ∷ c ∷ d ∷ []) i < base
+four_small a b c d p q r s zero = p
+four_small a b c d p q r s (suc zero) = q
+four_small a b c d p q r s (suc (suc zero)) = r
+four_small a b c d p q r s (suc (suc (suc zero))) = s
+four_small a b c d p q r s (suc (suc (suc (suc i)))) = omega arith
 
-pub whole_is : (x : ℕ) → x < base → StandsFor (x ∷ 0 ∷ 0 ∷ 0 ∷ []) x
-whole_is x h = record {
-  proper = record { long = refl; small = proper x 0 0 0 h (omega arith) (omega arith) (omega arith) };
-  is = value_is x 0 0 0 ∙ omega arith;
-}
+pub rate_is : (x : ℕ) → value (x ∷ 0 ∷ 0 ∷ 0 ∷ []) ≡ x
+rate_is x = value_is x 0 0 0 ∙ omega arith
 
 -- the product, limb by limb from the lowest, each with the carry of the one below it
 module _ (l : List ℕ) (P : Proper l) (k : ℕ) where
@@ -73,24 +61,29 @@ module _ (l : List ℕ) (P : Proper l) (k : ℕ) where
   abbrev d : ℕ
   d = at l 3 * k + c / base
 
-  module _ {r₀ r₁ r₂ r₃ : ℕ} (e₀ : r₀ ≡ a % base) (e₁ : r₁ ≡ b % base) (e₂ : r₂ ≡ c % base) (e₃ : r₃ ≡ d) where
-    stored : set (set (set (set l 0 r₀) 1 r₁) 2 r₂) 3 r₃ ≡ r₀ ∷ r₁ ∷ r₂ ∷ r₃ ∷ []
-    stored = ap (λ (y : List ℕ). set (set (set (set y 0 r₀) 1 r₁) 2 r₂) 3 r₃) (by_limbs l P.long)
+  product : digits (a % base) (b % base) (c % base) d ≡ value l * k
+  product =
+      carried base (at l 0) k 0 (a % base) (a / base) _ _ (omega arith)
+      (carried base (at l 1) k (a / base) (b % base) (b / base) _ _ (omega arith)
+      (carried base (at l 2) k (b / base) (c % base) (c / base) d (at l 3) (omega arith) refl))
+      ∙ add-zero _ ∙ ap (λ (y : ℕ). y * k) (sym (ap value (by_limbs l P.long) ∙ value_is (at l 0) (at l 1) (at l 2) (at l 3)))
 
-    product : digits r₀ r₁ r₂ r₃ ≡ value l * k
-    product =
-        carried base (at l 0) k 0 r₀ (a / base) _ _ (omega arith)
-        (carried base (at l 1) k (a / base) r₁ (b / base) _ _ (omega arith)
-        (carried base (at l 2) k (b / base) r₂ (c / base) r₃ (at l 3) (omega arith) e₃))
-        ∙ add-zero _ ∙ ap (λ (y : ℕ). y * k) (sym (ap value (by_limbs l P.long) ∙ value_is (at l 0) (at l 1) (at l 2) (at l 3)))
+  pub last_small : {x rate : ℕ} → value l ≡ x → k ≡ rate → x * rate < limit → d < base
+  unfolding limit
+  last_small e h fits =
+      shorter base (c % base) d base
+      (shorter base (b % base) _ _ (shorter base (a % base) _ _ (rw product (rw (← e, ← h) at fits))))
 
-    module _ (fits : value l * k < limit) where
-      last_small : r₃ < base
-      unfolding limit
-      last_small = shorter base r₂ r₃ base (shorter base r₁ _ _ (shorter base r₀ _ _ (rw product fits)))
+  pub times_is : {x rate : ℕ} → value l ≡ x → k ≡ rate → value (a % base ∷ b % base ∷ c % base ∷ d ∷ []) ≡ x * rate
+  times_is e h = rw (← e, ← h) (value_is (a % base) (b % base) (c % base) d ∙ product)
 
-      pub times_is : StandsFor (set (set (set (set l 0 r₀) 1 r₁) 2 r₂) 3 r₃) (value l * k)
-      times_is = rw stored (record {
-        proper = record { long = refl; small = proper r₀ r₁ r₂ r₃ (omega arith) (omega arith) (omega arith) last_small };
-        is = value_is r₀ r₁ r₂ r₃ ∙ product;
-      })
+-- the limbs are the same where the numbers are
+pub same_is : (l o : List ℕ) → Proper l → Proper o → bytes_eq l o ≡ nat_eq (value l) (value o)
+same_is l o p q =
+    same_from_decides _ _
+    (Decides-like _ (λ e. ap value e) (same_limbs l o (p.long ∙ sym q.long) p.small q.small) (bytes_eq-Decides l o))
+    (Decides-eqb _ _)
+
+-- and that tells whether the numbers are equal
+pub equal_tells : (x y : ℕ) (r : Bool) → r ≡ nat_eq x y → Tells r (x ≡ y)
+equal_tells x y r e = record { holds = λ t. eqb-true x y (sym e ∙ t); fails = λ f. eqb-false x y (sym e ∙ f) }

@@ -2,45 +2,74 @@
 #![tactic(auto)]
 
 ghost use Rattle.std.specs.Prelude.{◌*◌, ◌≤◌, ◌<◌, ◌≡◌};
-ghost use Rattle.lists.specs.Test.{Tells};
-ghost use Rattle.limbs.specs.Value.{StandsFor, Proper, limit, value};
+ghost use Rattle.limbs.specs.Value.{limit};
 
-const BASE: u64 = 72057594037927936;
+use std::marker::Model;
+
+const BASE: u64 = 1 << 56;
+
+// A number that contracts see as itself.
+#[derive(Drop)]
+pub struct Limbs {
+    limbs: [u64; 4],
+}
+
+impl Model for Limbs {
+    ghost use Rattle.std.specs.Prelude.{ℕ};
+    ghost use Rattle.limbs.specs.Value.{Proper, value};
+
+    ghost Value = { ℕ };
+
+    ghost view = { λ a. value a.limbs };
+
+    ghost invariant = { λ a. Proper a.limbs };
+}
+
+// By hand: a derive would compare the limbs that an `inverse` of the view gives back, and here `==` is that of the numbers.
+impl PartialEq for Limbs {
+    ghost use Rattle.std.specs.Prelude.{nat_eq};
+    ghost use Rattle.std.specs.Cmp.{nat_eq_equiv, partial_equiv_from_equiv};
+
+    ghost eq = { nat_eq };
+
+    ghost laws = { partial_equiv_from_equiv nat_eq_equiv };
+
+    fn eq(&self, other: &Limbs) -> bool {
+        self.limbs == other.limbs
+    }
+}
 
 // A rate as a number of four limbs.
-pub fn whole(rate: u16) -> [u64; 4]
-    ensures { StandsFor result rate }
-{
-    [rate as u64, 0, 0, 0]
-}
+impl From<u16> for Limbs {
+    ghost from_gives = { λ rate r. r ≡ rate };
 
-// The product with a rate, in place. Four products.
-pub fn times(limbs: &mut [u64; 4], rate: u16)
-    requires { Proper limbs.old × ((rate ≤ 64) × (value limbs.old * rate < limit)) }
-    ensures { StandsFor limbs.new (value limbs.old * rate) }
-{
-    let k = rate as u64;
-    let a = limbs[0] * k;
-    let b = limbs[1] * k + a / BASE;
-    let c = limbs[2] * k + b / BASE;
-    let d = limbs[3] * k + c / BASE;
-    limbs[0] = a % BASE;
-    limbs[1] = b % BASE;
-    limbs[2] = c % BASE;
-    limbs[3] = d;
-}
-
-// Whether two numbers are equal. At most four tests.
-pub fn same(l: &[u64; 4], o: &[u64; 4]) -> bool
-    requires { Proper l.now × Proper o.now }
-    ensures { Tells result (value l.now ≡ value o.now) }
-{
-    let mut i = 0;
-    while i < 4 {
-        if l[i] != o[i] {
-            return false;
-        }
-        i += 1;
+    fn from(rate: u16) -> Limbs {
+        Limbs::new([u64::from(rate), 0, 0, 0])
     }
-    true
+}
+
+impl Limbs {
+    ghost use Rattle.limbs.specs.Value.{Proper, value};
+
+    // Four limbs, the lowest first, each below the base.
+    pub fn new(limbs: [u64; 4]) -> Limbs
+        requires { Proper limbs }
+        ensures { result ≡ value limbs }
+    {
+        Limbs { limbs }
+    }
+
+    // The product with a rate, in place. Four products.
+    pub fn times(&mut self, rate: u16)
+        requires few { rate ≤ 64 }
+        requires fits { self.old * rate < limit }
+        ensures { self.new ≡ self.old * rate }
+    {
+        let k = u64::from(rate);
+        let a = self.limbs[0] * k;
+        let b = self.limbs[1] * k + a / BASE;
+        let c = self.limbs[2] * k + b / BASE;
+        let d = self.limbs[3] * k + c / BASE;
+        self.limbs = [a % BASE, b % BASE, c % BASE, d];
+    }
 }

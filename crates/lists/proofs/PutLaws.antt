@@ -1,20 +1,19 @@
 -- The laws of a list with another stored into it.
-use Prim.Native.Nat.{ℕ, suc, ◌+◌, ◌*◌, ◌≤◌}
-use mathlib.Core.Path.{◌≡◌, refl, sym}
-use mathlib.Core.List.{List, [], ◌∷◌, ◌++◌}
+use Prim.Native.Nat.{ℕ, suc, ◌+◌, ◌-◌, ◌*◌, ◌≤◌}
+use mathlib.Core.Path.{◌≡◌, refl, sym, ◌∙◌}
+use mathlib.Core.List.{List, [], ◌∷◌, ◌++◌, append_assoc}
 use native.Mathlib.Nat.{add-zero, add-suc, suc-add, zero-add, mul-zero, mul-add, mul-one}
-use native.Mathlib.Numerals.{add-one}
+use native.Mathlib.Omega.{arith}
 use lib.ListN.{length, drop, set, length-append}
 use lib.Seq.{sets-eq, length-sets}
+use borrow.Rule.Slice.PartMut.{put_mid}
+use Rattle.std.proofs.lemmas.List.Edits.{paste_all}
+use Rattle.std.proofs.lemmas.Slice.{put_mid-paste}
 use Rattle.lists.specs.Put.{put, Wrote}
 use Rattle.lists.specs.Joined.{joined}
 use Rattle.lists.proofs.JoinedLaws.{joined_more}
 
-pub put_two : (l : List ℕ) (i x y : ℕ) → set (set l i x) (i + 1) y ≡ put l i (x ∷ y ∷ [])
-unfolding put
-put_two l i x y = rw add-one
-
--- and one more list behind it
+-- one list behind another
 pub put_append : (l : List ℕ) (i : ℕ) (v w : List ℕ) → put (put l i v) (i + length v) w ≡ put l i (v ++ w)
 unfolding put
 put_append l i [] w = rw add-zero
@@ -38,6 +37,14 @@ put_one_more l i v x = put_append l i v (x ∷ [])
 pub put_front : (l v : List ℕ) → length v ≤ length l → put l 0 v ≡ v ++ drop (length v) l
 unfolding put
 put_front l v h = rw (sets-eq v l 0 (rw zero-add h), zero-add)
+
+-- a part of k entries, lent to be filled with v
+pub put_lent : (l : List ℕ) (i k : ℕ) (v now : List ℕ) → now ≡ v → length v ≡ k → i + k ≤ length l → put_mid i (i + k - i) l now ≡ put l i v
+unfolding put
+put_lent l i k v now e long h =
+    put_mid-paste i (i + k - i) l now v k e (omega arith) (sym long)
+    ∙ paste_all l i v k (sym long)
+    ∙ rw (sets-eq v l i (rw long h), long, append_assoc)
 
 -- after one more list of known length
 pub wrote : {l v after : List ℕ} {i k : ℕ} → after ≡ put l i v → length v ≡ k → Wrote l i v k after

@@ -1,10 +1,8 @@
 -- The laws of what a test tells.
-use Prim.Native.Nat.{ℕ, ◌≤◌, ◌<◌}
+use Prim.Native.Nat.{ℕ}
 use mathlib.Core.Path.{◌≡◌, refl}
 use mathlib.Core.Bool.{Bool, true, false}
 use native.Mathlib.Omega.{arith}
-use lib.Dec.{ltb, leb}
-use borrow.Author.Tests.{ltb-true, ltb-false, leb-true, leb-false}
 use Rattle.lists.specs.Test.{Tells}
 
 pub differ : {b : Bool} → b ≡ true → b ≡ false → ⊥
@@ -22,10 +20,3 @@ tells_once true true s t = refl
 tells_once true false s t = absurd (t.fails refl (s.holds refl))
 tells_once false true s t = absurd (s.fails refl (t.holds refl))
 tells_once false false s t = refl
-
--- comparisons tell what they compare
-pub tells_lt : (a b : ℕ) → Tells (ltb a b) (a < b)
-tells_lt a b = record { holds = ltb-true a b; fails = λ e l. let g = ltb-false a b e in omega arith }
-
-pub tells_le : (a b : ℕ) → Tells (leb a b) (a ≤ b)
-tells_le a b = record { holds = leb-true a b; fails = λ e l. let g = leb-false a b e in omega arith }

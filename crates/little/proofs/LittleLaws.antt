@@ -1,9 +1,10 @@
 -- The laws of little-endian numbers.
-use Prim.Native.Nat.{ℕ, ◌+◌, ◌/◌, ◌%◌, ◌≤◌}
+use Prim.Native.Nat.{ℕ, ◌+◌, ◌/◌, ◌%◌, ◌^◌, ◌≤◌, ◌<◌}
 use mathlib.Core.Path.{◌≡◌, refl}
 use mathlib.Core.List.{List}
 use native.Mathlib.Omega.{arith}
 use lib.ListN.{length}
+use Rattle.std.specs.Int.{w16, w32, to_le_bytes}
 use Rattle.lists.specs.Front.{at}
 use Rattle.lists.specs.Part.{part}
 use Rattle.lists.proofs.PartLaws.{part_join, part_two}
@@ -16,6 +17,20 @@ length_two x = refl
 pub length_four : (x : ℕ) → length (four x) ≡ 4
 unfolding four two
 length_four x = refl
+
+-- the library's bytes of a number are these
+pub two_bytes : (x : ℕ) → x < 2 ^ 16 → to_le_bytes w16 x ≡ two x
+unfolding two
+two_bytes x h = let high : x / 256 % 256 ≡ x / 256 = omega arith in rw high
+
+pub four_bytes : (x : ℕ) → x < 2 ^ 32 → to_le_bytes w32 x ≡ four x
+unfolding four two
+four_bytes x h =
+    let first : x % 65536 % 256 ≡ x % 256 = omega arith in
+    let second : x % 65536 / 256 ≡ x / 256 % 256 = omega arith in
+    let third : x / 65536 % 256 ≡ x / 256 ^ 2 % 256 = omega arith in
+    let last : x / 65536 / 256 ≡ x / 256 ^ 3 % 256 = omega arith in
+    rw (first, second, third, last)
 
 -- the bytes of the number in two bytes are those two, and likewise of four
 pub two_u16 : (s : List ℕ) → Bytes s → (i : ℕ) → i + 2 ≤ length s → two (u16le s i) ≡ part s i 2

@@ -1,21 +1,15 @@
 -- What one move answers: refusals 1 to 8 with 16, and 12, or where the copy goes.
-use Rattle.std.specs.Prelude.{ℕ, refl, List, [], ◌∷◌, ◌++◌, ℤ, pos}
+use Rattle.std.specs.Prelude.{ℕ, List, [], ◌∷◌, ◌++◌, ℤ, Result}
 use Rattle.refusals.specs.Table.{hand}
 use Rattle.refusals.specs.First.{Row}
-use Rattle.refusals.specs.Answer.{Kind, Answers}
+use Rattle.refusals.specs.Refused.{Answered}
+use Rattle.refusals.specs.declared.refusal.Refusal.{Refusal}
 use Rattle.dataflow.specs.Promise.{MovePromise}
 use Rattle.dataflow.specs.Refusals.{MoveFits}
 use Rattle.sheet.specs.declared.Sheet.{Sheet}
 use Rattle.sheet.specs.Format.{sheet_of}
 use Rattle.checks.specs.Check.{net_for, CountsOf, counted_row, check_rows}
 use Rattle.moves.specs.declared.Moved.{Moved}
-
--- number and place, and every other number 0
-abbrev pub refused_by : (number place : ℕ) → Moved
-refused_by number place = record { number = number; place = place; copy = 0; shift = pos 0 }
-
-abbrev pub moved_kind : Kind Moved
-moved_kind = record { number = λ a. a.number; place = λ a. a.place; refusal = refused_by; tells_number = λ k p. refl; tells_place = λ k p. refl }
 
 -- 12, for one move
 abbrev pub move_row : Sheet → (v i : ℕ) (r : ℤ) → Row
@@ -28,5 +22,5 @@ pub record Goes (f : Sheet) (v i : ℕ) (r : ℤ) (a : Moved) : Type 0 where
   pub promise : MovePromise (net_for f q) v i r a.copy a.shift
 
 -- the move of copy i of v by r, for a sheet's bytes
-abbrev pub OneMove : (s : List ℕ) (v i : ℕ) (r : ℤ) → Moved → Type 0
-OneMove s v i r = Answers moved_kind (check_rows s ++ move_row (sheet_of s) v i r ∷ []) (Goes (sheet_of s) v i r)
+abbrev pub OneMove : (s : List ℕ) (v i : ℕ) (r : ℤ) → Result Moved Refusal → Type 0
+OneMove s v i r = Answered (check_rows s ++ move_row (sheet_of s) v i r ∷ []) (Goes (sheet_of s) v i r)

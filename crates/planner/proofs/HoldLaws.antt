@@ -1,19 +1,17 @@
 -- The plan that is shown, with the lists that were written, keeps the promise.
 use Prim.Native.Nat.{ℕ, ◌+◌, ◌-◌, ◌*◌, ◌≤◌, ◌<◌}
-use mathlib.Core.Path.{◌≡◌, refl, sym, subst, ap}
+use mathlib.Core.Path.{◌≡◌, refl, sym, ap}
 use mathlib.Core.List.{List, ◌++◌}
 use native.Mathlib.Omega.{arith}
 use lib.ListN.{length, take, drop}
-use lib.Seq.{drop_at}
+use lib.Seq.{drop_at, take-length}
 use Rattle.lists.specs.Front.{at}
 use Rattle.lists.proofs.FrontLaws.{at_front, length_front, drop_front, length_over}
 use Rattle.dataflow.specs.Net.{Net}
 use Rattle.dataflow.specs.Counts.{sum}
 use Rattle.dataflow.specs.Copies.{Copy}
-use Rattle.dataflow.specs.Lists.{FiringList, StartList, RoundList}
+use Rattle.dataflow.specs.Lists.{StartList, RoundList}
 use Rattle.dataflow.specs.Promise.{PlanHolds}
-use Rattle.dataflow.specs.Peak.{Room}
-use Rattle.dataflow.specs.Runs.{initially}
 use Rattle.dataflow.specs.Sheet.{Below, plan_of}
 use Rattle.dataflow.specs.Times.{TimeTable, entry}
 use Rattle.dataflow.proofs.CopyLaws.{copy_station}
@@ -25,9 +23,9 @@ use Rattle.dataflow.proofs.TimeLaws.{times_same}
 use Rattle.sheet.specs.declared.Sheet.{Sheet}
 use Rattle.chain.specs.Chain.{delays_of}
 use Rattle.checks.specs.declared.Checked.{Checked}
-use Rattle.checks.specs.Check.{columns_of, net_for, delays_for}
+use Rattle.checks.specs.Check.{columns_of, net_for, delays_for, sheet_in}
 use Rattle.search.specs.declared.Found.{Found}
-use Rattle.planner.specs.declared.Planning.{Planning}
+use Rattle.planner.specs.declared.PlanNumbers.{PlanNumbers}
 use Rattle.planner.specs.Making.{Begun, HasRoom, Wrote, Roomed, numbers_of}
 use Rattle.planner.specs.Plan.{Only, Planned}
 use Rattle.planner.proofs.WorkLaws.{W, retimes, backs, firings_are}
@@ -39,36 +37,36 @@ only_front k l before e h = record { long = length_over l before (omega arith); 
 
 module _ {c : Checked} {r : Found} {back : ℕ} {firings : List ℕ} {starts : ℕ} (b : Begun c r back firings starts) where
   abbrev f : Sheet
-  f = c.sheet
+  f = sheet_in c
 
   abbrev G : Net
-  G = net_for c.sheet c.q
+  G = net_for (sheet_in c) c.round.q
 
-  abbrev D : Below c.sheet.m → ℕ
-  D = delays_of c.sheet.m r.delay
+  abbrev D : Below c.round.chain.m → ℕ
+  D = delays_of c.round.chain.m r.delay
 
   module _ {start round times start' round' times' : List ℕ} (w : Wrote c r firings start round times start' round' times') (rooms : HasRoom c starts start round times) where
-    start_is : StartList G (delays_for f c.q) (at r.retiming) back (take starts start')
+    start_is : StartList G (delays_for f c.round.q) (at r.retiming) back (take starts start')
     start_is =
         rw (start_taken b w)
-        (list_same G (at firings) (λ v. back * at c.q v - at r.retiming v) (firings_are b.retimed b.backs b.fires)
-        (subst (λ (d : List ℕ). FiringList G (at firings) (initially G (delays_of f.m d)) w.start_list.list) b.retimed.ready.delays (w.start_list.is f.time c.q)))
+        (list_same G (at firings) (λ v. back * at c.round.q v - at r.retiming v) (firings_are b.retimed b.backs b.fires)
+        (w.start_list.is f.time c.round.q))
 
-    round_is : RoundList G D (take c.total round')
-    round_is = rw (round_taken b w) (w.round_list.is f.time c.q)
+    round_is : RoundList G D (take c.round.total round')
+    round_is = rw (round_taken b w) (w.round_list.is f.time c.round.q)
 
-    times_is : TimeTable G D (entry (at c.q) times')
-    times_is = times_same G (W b.retimed) D (entry (at c.q) r.table) (entry (at c.q) times') same (retimes b.retimed).table.times
+    times_is : TimeTable G D (entry (at c.round.q) times')
+    times_is = times_same G (W b.retimed) D (entry (at c.round.q) r.table) (entry (at c.round.q) times') same (retimes b.retimed).table.times
       where
-        same : (v i : ℕ) → Copy G v i → entry (at c.q) r.table v i ≡ entry (at c.q) times' v i
+        same : (v i : ℕ) → Copy G v i → entry (at c.round.q) r.table v i ≡ entry (at c.round.q) times' v i
         same v i k =
-            let place = sum v (at c.q) + (i - 1) in
-            let within : sum v (at c.q) + (i - 1) < c.total = omega (arith, sum_before (at c.q) v f.n (copy_station G (W b.retimed) k), b.retimed.ready.total, k.low, k.high) in
-            rw w.time_table (sym (at_front c.total (at r.table) times (sum v (at c.q) + (i - 1)) within))
+            let place = sum v (at c.round.q) + (i - 1) in
+            let within : sum v (at c.round.q) + (i - 1) < c.round.total = omega (arith, sum_before (at c.round.q) v f.n (copy_station G (W b.retimed) k), sym c.round.counted.adds, k.low, k.high) in
+            rw w.time_table (sym (at_front c.round.total (at r.table) times (sum v (at c.round.q) + (i - 1)) within))
 
-    module _ {room : List ℕ} (s : Roomed c starts start' round' room) {p : Planning} (is : p ≡ numbers_of c r back firings starts room) where
-      holds : PlanHolds G (delays_for f c.q) f.target
-          (plan_of (columns_of f) c.q r.period r.rounds back r.retiming r.delay room (take starts start') (take c.total round') times')
+    module _ {room : List ℕ} (s : Roomed c (take starts start') (take c.round.total round') room) {p : PlanNumbers} (is : p ≡ numbers_of c r back firings starts room) where
+      holds : PlanHolds G (delays_for f c.round.q) f.target
+          (plan_of (columns_of f) c.round.q r.period r.rounds back r.retiming r.delay room (take starts start') (take c.round.total round') times')
       holds = record {
         counts = b.retimed.ready.counts.counts;
         retiming = (retimes b.retimed).retiming;
@@ -76,7 +74,7 @@ module _ {c : Checked} {r : Found} {back : ℕ} {firings : List ℕ} {starts : �
         period = (retimes b.retimed).period;
         rounds = (retimes b.retimed).rounds;
         back = backs b.retimed b.backs;
-        room = λ e. subst (λ (d : List ℕ). Room G (delays_of f.m d) (take starts start') (take c.total round') e (at room e.0)) b.retimed.ready.delays (s.is e.0 e.1 e.1 f.time c.q);
+        room = λ e. rw (take-length (take starts start'), take-length (take c.round.total round')) at (s.is e.0 e.1 e.1 f.time c.round.q);
         start = start_is;
         round = round_is;
         times = times_is;
@@ -88,14 +86,14 @@ module _ {c : Checked} {r : Found} {back : ℕ} {firings : List ℕ} {starts : �
         queues = refl;
         tags = refl;
         counts = b.retimed.ready.counts;
-        total = b.retimed.ready.total;
+        total = sym c.round.counted.adds;
         firings = b.fires;
         starts = b.adds;
-        promise = kept G (W b.retimed) (delays_for f c.q) f.target _ holds;
+        promise = kept G (W b.retimed) (delays_for f c.round.q) f.target _ holds;
         start_only = rw w.start_list.stored (only_front starts w.start_list.list start (start_long b w) rooms.start_room);
-        round_only = rw w.round_list.stored (only_front c.total w.round_list.list round (round_long b w) rooms.round_room);
-        times_only = rw w.time_table (record { long = length_front c.total (at r.table) times rooms.times_room; rest = drop_front c.total (at r.table) times });
-        no_station = λ v l. omega (arith, search_bound G (W b.retimed) (delays_for f c.q) f.target (retimes b.retimed).rounds.searched v, ap (λ (x : ℕ). r.rounds * x) (b.retimed.ready.counts.beyond v l));
+        round_only = rw w.round_list.stored (only_front c.round.total w.round_list.list round (round_long b w) rooms.round_room);
+        times_only = rw w.time_table (record { long = length_front c.round.total (at r.table) times rooms.times_room; rest = drop_front c.round.total (at r.table) times });
+        no_station = λ v l. omega (arith, search_bound G (W b.retimed) (delays_for f c.round.q) f.target (retimes b.retimed).rounds.searched v, ap (λ (x : ℕ). r.rounds * x) (b.retimed.ready.counts.beyond v l));
         no_delay = (retimes b.retimed).rest;
         no_room = s.rest;
       })

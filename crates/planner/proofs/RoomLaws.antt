@@ -6,6 +6,10 @@ use mathlib.Core.Logic.{⊎_elim}
 use native.Mathlib.Nat.{mul-le-mul}
 use native.Mathlib.Omega.{arith}
 use lib.ListN.{length}
+use Rattle.std.specs.Prelude.{Result, Err}
+use Rattle.refusals.specs.declared.refusal.Refusal.{Refusal}
+use Rattle.refusals.specs.declared.refusal.Refusal.TheVariants.{Room}
+use Rattle.refusals.specs.Refused.{number_in, place_in}
 use Rattle.lists.specs.Front.{at}
 use Rattle.lists.proofs.Order.{order, le_stable}
 use Rattle.refusals.specs.Table.{number}
@@ -27,7 +31,7 @@ use Rattle.sheet.specs.Format.{sheet_of}
 use Rattle.sheet.specs.Read.{read_rows}
 use Rattle.checks.specs.Check.{net_for, delays_for, CountsOf, chain_rows}
 use Rattle.checks.proofs.CheckLaws.{any_counts, rows_chain, rows_sound}
-use Rattle.planner.specs.declared.Planning.{Planning}
+use Rattle.planner.specs.declared.PlanNumbers.{PlanNumbers}
 use Rattle.planner.specs.Plan.{Worked, start_length, TooShort, retimed_rows, plan_rows, Plans}
 
 -- where 7 isn't given the counts add up to at most 256
@@ -83,7 +87,8 @@ module _ (s : List ℕ) (x y z place : ℕ) (g : Given (plan_rows s x y z) 11 pl
       short.4
 
 -- so a program that lends as many never says 11
-pub never_room : (s start round times : List ℕ) (r : Planning) (start' round' times' : List ℕ) → Plans s start round times r start' round' times'
-    → 65280 ≤ length start → 256 ≤ length round → 256 ≤ length times → r.number ≡ 11 → ⊥
+pub never_room : (s start round times : List ℕ) (r : Result PlanNumbers Refusal) (start' round' times' : List ℕ) → Plans s start round times r start' round' times'
+    → 65280 ≤ length start → 256 ≤ length round → 256 ≤ length times → r ≡ Err Room → ⊥
 never_room s start round times r start' round' times' a hx hy hz e =
-    room_enough s (length start) (length round) (length times) r.place (refusal_given (subst (λ (k : ℕ). First (plan_rows s (length start) (length round) (length times)) k r.place) e a.verdict) (λ n. omega arith)) hx hy hz
+    let v = subst (λ (x : Result PlanNumbers Refusal). First (plan_rows s (length start) (length round) (length times)) (number_in x) (place_in x)) e a.answered.verdict in
+    room_enough s (length start) (length round) (length times) 0 (refusal_given v (λ n. omega arith)) hx hy hz

@@ -1,6 +1,6 @@
 -- Refusals 9 and 11, as rows of the table.
 use Prim.Native.Nat.{ℕ, ◌-◌, ◌*◌, ◌≤◌, ◌<◌}
-use mathlib.Core.Path.{◌≡◌, refl, subst, ap}
+use mathlib.Core.Path.{◌≡◌, refl, sym, subst, ap}
 use mathlib.Core.List.{List, [], ◌∷◌}
 use mathlib.Core.Logic.{◌⊎◌, inl, inr}
 use native.Mathlib.Omega.{arith}
@@ -15,9 +15,8 @@ use Rattle.dataflow.specs.Retiming.{whole, Serves}
 use Rattle.dataflow.proofs.PlanLaws.{back_once}
 use Rattle.dataflow.proofs.SumLaws.{sum_same}
 use Rattle.sheet.specs.declared.Sheet.{Sheet}
-use Rattle.chain.specs.Chain.{delays_of}
 use Rattle.checks.specs.declared.Checked.{Checked}
-use Rattle.checks.specs.Check.{net_for, delays_for, CountsOf, Ready}
+use Rattle.checks.specs.Check.{net_for, delays_for, CountsOf, Ready, sheet_in}
 use Rattle.checks.proofs.CheckLaws.{counts_of_once}
 use Rattle.search.specs.declared.Found.{Found}
 use Rattle.search.specs.Found.{NoneServes}
@@ -26,13 +25,13 @@ use Rattle.planner.specs.Plan.{retiming_row, room_row, Worked, start_length, Too
 use Rattle.planner.proofs.WorkLaws.{W, retimes, worked, starts_are}
 
 -- 9 is given
-pub none_serve : {c : Checked} {r : Found} {rows : List Row} → Ready c.sheet c
-    → NoneServes c.sheet.n c.sheet.m c.sheet.source c.sheet.sink c.sheet.produced c.sheet.consumed c.delay c.sheet.time c.q c.total c.sheet.target r
-    → First (retiming_row c.sheet ∷ rows) 9 0
+pub none_serve : {c : Checked} {rows : List Row} → Ready (sheet_in c) c
+    → NoneServes c.round.chain.n c.round.chain.m c.round.chain.source c.round.chain.sink c.round.chain.produced c.round.chain.consumed c.delay c.time c.round.q c.round.total c.target
+    → First (retiming_row (sheet_in c) ∷ rows) 9 0
 none_serve {c} h n =
-    let f = c.sheet in
+    let f = sheet_in c in
     here_now no_retiming
-    (c.q, h.counts, subst (λ (d : List ℕ). (z : ℕ → ℤ) → Serves (net_for f c.q) (delays_of f.m d) f.target z → ⊥) h.delays n.none)
+    (c.round.q, h.counts, n.none)
 
 module _ {f : Sheet} {q : List ℕ} (counts : CountsOf f q) where
   -- or some whole numbers serve, and it isn't
@@ -62,28 +61,28 @@ module _ {f : Sheet} {q : List ℕ} (counts : CountsOf f q) where
                 rw (n, e, entry v o) refl
 
 module _ {c : Checked} {r : Found} (h : Retimed c r) where
-  pub serve_passed : Passed (retiming_row c.sheet)
+  pub serve_passed : Passed (retiming_row (sheet_in c))
   serve_passed = serving h.ready.counts (whole (at r.retiming)) (retimes h).retiming.serves
 
 module _ {c : Checked} {r : Found} {back : ℕ} {firings : List ℕ} {starts : ℕ} (b : Begun c r back firings starts) where
   abbrev g : Sheet
-  g = c.sheet
+  g = sheet_in c
 
   module _ (x y z : ℕ) where
     -- 11 is given
-    pub short_refused : (x < starts) ⊎ ((y < c.total) ⊎ (z < c.total)) → First (room_row g x y z ∷ []) 11 0
-    short_refused s = here_now room (c.q, r.retiming, back, worked b.retimed b.backs, go s)
+    pub short_refused : (x < starts) ⊎ ((y < c.round.total) ⊎ (z < c.round.total)) → First (room_row g x y z ∷ []) 11 0
+    short_refused s = here_now room (c.round.q, r.retiming, back, worked b.retimed b.backs, go s)
       where
-        e : c.total ≡ sum g.n (at c.q)
-        e = b.retimed.ready.total
+        e : c.round.total ≡ sum g.n (at c.round.q)
+        e = sym c.round.counted.adds
 
-        go : (x < starts) ⊎ ((y < c.total) ⊎ (z < c.total)) → TooShort g.n c.q r.retiming back x y z
+        go : (x < starts) ⊎ ((y < c.round.total) ⊎ (z < c.round.total)) → TooShort g.n c.round.q r.retiming back x y z
         go (inl k) = inl (omega (arith, b.adds, starts_are b.retimed b.backs b.fires))
         go (inr (inl k)) = inr (inl (omega (arith, e)))
         go (inr (inr k)) = inr (inr (omega (arith, e)))
 
     -- or it isn't
-    pub room_passed : starts ≤ x → c.total ≤ y → c.total ≤ z → Passed (room_row g x y z)
+    pub room_passed : starts ≤ x → c.round.total ≤ y → c.round.total ≤ z → Passed (room_row g x y z)
     room_passed a k l =
-        let e = b.retimed.ready.total in
+        let e = sym c.round.counted.adds in
         roomy b.retimed.ready.counts (W b.retimed) (worked b.retimed b.backs) x y z (omega (arith, b.adds, starts_are b.retimed b.backs b.fires)) (omega arith) (omega arith)

@@ -3,14 +3,11 @@ use Rattle.std.specs.Prelude.{ℕ, ◌<◌, ◌^◌, ◌≡◌, List, ◌++◌, 
 use Rattle.lists.specs.Front.{at}
 use Rattle.dataflow.specs.Runs.{initially}
 use Rattle.dataflow.specs.Lists.{FiringList}
-use Rattle.chain.specs.Chain.{Chain, net_of, delays_of}
-use Rattle.firing.specs.Thread.{Threads}
+use Rattle.chain.specs.Chain.{net_of, delays_of}
 use Rattle.firing.specs.Fire.{Wanted}
 
 -- what firing a list asks for
-pub record Fireable (n m : ℕ) (source sink produced consumed delay head next wanted : List ℕ) (total : ℕ) : Type 0 where
-  pub chain : Chain n m source sink produced consumed
-  pub threads : Threads n m sink head next
+pub record Fireable (n : ℕ) (delay wanted : List ℕ) (total : ℕ) : Type 0 where
   pub delays : (e : ℕ) → at delay e < 2 ^ 30
   pub wants : Wanted n wanted total
 

@@ -3,27 +3,20 @@ ghost use Rattle.std.specs.Prelude.{◌≤◌, length, ◌≡◌};
 ghost use Rattle.lists.specs.Front.{at, front};
 ghost use Rattle.planner.specs.Lists.{Fireable, Completes, Written};
 
-// Writes a list that can be completed over the first entries, firing by firing.
+use chain::Chain;
+
+// Writes a list that can be completed over the first entries of a lent one, which may be longer (`Written`), firing by firing.
 pub(crate) fn write_list(
-    n: usize,
-    m: usize,
+    chain: &Chain,
     total: usize,
-    source: &[u16; 64],
-    sink: &[u16; 64],
-    produced: &[u16; 64],
-    consumed: &[u16; 64],
     delay: &[u32; 64],
-    head: &[u16; 32],
-    next: &[u16; 64],
     wanted: &[u32; 32],
     list: &mut [u16],
 )
-    requires { Fireable n m source.now sink.now produced.now consumed.now delay.now head.now next.now wanted.now total × ((total ≤ length list.old) × Completes n m source.now sink.now produced.now consumed.now delay.now wanted.now) }
-    ensures { Written n m source.now sink.now produced.now consumed.now delay.now wanted.now list.old list.new }
+    requires { Fireable chain.now.n delay.now wanted.now total × ((total ≤ length list.old) × Completes chain.now.n chain.now.m chain.now.source chain.now.sink chain.now.produced chain.now.consumed delay.now wanted.now) }
+    ensures { Written chain.now.n chain.now.m chain.now.source chain.now.sink chain.now.produced chain.now.consumed delay.now wanted.now list.old list.new }
 {
-    firing::fire_list(
-        n, m, total, source, sink, produced, consumed, delay, head, next, wanted, list,
-    );
+    firing::fire_list(chain, total, delay, wanted, list);
 }
 
 // Writes the time table over the first entries. One pass over it.
@@ -31,7 +24,5 @@ pub(crate) fn write_times(total: usize, table: &[u32; 256], times: &mut [u32])
     requires { (total ≤ 256) × (total ≤ length times.old) }
     ensures { times.new ≡ front total (at table.now) times.old }
 {
-    for k in 0..total {
-        times[k] = table[k];
-    }
+    times[..total].copy_from_slice(&table[..total]);
 }

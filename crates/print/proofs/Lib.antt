@@ -1,3 +1,1 @@
 pub mod GatheringLaws
-pub mod SpelledLaws
-pub mod Unique

@@ -1,27 +1,49 @@
--- Text that is gathered in a page on its way out.
-use Rattle.std.specs.Prelude.{ℕ, ◌+◌, ◌≤◌, ◌<◌, ◌≡◌, true, false, List, ◌++◌, length, take}
-use Rattle.print.specs.declared.gathering.Gathered.{Gathered}
+-- Text that is gathered in a page on its way to a writer.
+use Rattle.std.specs.Prelude.{ℕ, ◌+◌, ◌≤◌, ◌<◌, ◌≡◌, ◌↔◌, List, ◌++◌, length, take, Option, Result, None, unwrap_or, IsSome, IsOk, IsErr, IfOk, OnOk, Ok}
+use Rattle.std.specs.Io.KnownBytes.{append_known, Keeps, Appends}
+use Rattle.std.specs.declared.fmt.Error.{Error}
+use Rattle.print.specs.declared.gathering.TheConstants.{SIZE}
+use Rattle.print.specs.declared.gathering.Page.{Page}
+
+-- how many bytes the page holds: none once a write failed
+abbrev pub held_count : {W : Type 0} → Page W → ℕ
+held_count page = unwrap_or page.held 0
 
 -- what the page holds: the text that is still to be written
-abbrev pub held_in : (page : List ℕ) → Gathered → List ℕ
-held_in page out = take out.held page
+abbrev pub held_in : {W : Type 0} → Page W → List ℕ
+held_in page = take (held_count page) page.bytes
+
+-- the text so far, where the bytes that the writer has are known: those, and what the page holds behind them
+abbrev pub text_of : {W : Type 0} → (W → Option (List ℕ)) → Page W → Option (List ℕ)
+text_of contents page = append_known (contents page.out) (held_in page)
+
+-- a write failed, or a text was longer than a page
+abbrev pub IsCut : {W : Type 0} → Page W → Type 0
+IsCut page = page.held ≡ None
+
+-- a call on the page: it fails where a write fails, now or before; once one failed, the page holds nothing and nothing more is written
+pub record Stops {W T : Type 0} (old new : Page W) (r : Result T Error) : Type 0 where
+  pub cut : IsErr r ↔ IsCut new
+  pub stays_cut : IsCut old → IsCut new × (new.out ≡ old.out)
 
 -- What the page held was written, or a write failed, now or before; nothing is held.
-pub record Flushed (out r : Gathered) : Type 0 where
-  pub empty : r.held ≡ 0
-  pub stays_cut : out.whole ≡ false → r.whole ≡ false
+pub record Flushed {W : Type 0} (contents : W → Option (List ℕ)) (old new : Page W) (r : Result (Unit {0}) Error) : Type 0 where
+  pub empty : held_count new ≡ 0
+  pub stops : Stops old new r
+  pub text : OnOk r (Keeps (text_of contents old) (text_of contents new))
 
--- There is room for n more bytes in a page of this size: what it held stays where they fit behind it, and only there.
-pub record RoomFor (size n : ℕ) (out r : Gathered) : Type 0 where
-  pub room : r.whole ≡ true → r.held + n ≤ size
-  pub stays : out.held + n ≤ size → r ≡ out
-  pub empty : size < out.held + n → r.held ≡ 0
-  pub stays_cut : out.whole ≡ false → r.whole ≡ false
+-- There is room for n more bytes behind the place that is given: what the page held stays before it where they fit behind it, and only there.
+pub record RoomFor {W : Type 0} (contents : W → Option (List ℕ)) (n : ℕ) (old new : Page W) (r : Result ℕ Error) : Type 0 where
+  pub room : IfOk r (λ at. (at ≡ held_count new) × (at + n ≤ SIZE))
+  pub stays : IsSome old.held → held_count old + n ≤ SIZE → (r ≡ Ok (held_count old)) × (new ≡ old)
+  pub empty : SIZE < held_count old + n → held_count new ≡ 0
+  pub stops : Stops old new r
+  pub text : OnOk r (Keeps (text_of contents old) (text_of contents new))
 
--- The text s was put behind what the page held, which was written first where s didn't fit behind it; once a write failed, the page holds nothing any more.
-pub record Gathers (page : List ℕ) (out : Gathered) (s page' : List ℕ) (r : Gathered) : Type 0 where
-  pub within : r.held ≤ length page'
-  pub behind : r.whole ≡ true → out.held + length s ≤ length page → held_in page' r ≡ held_in page out ++ s
-  pub alone : r.whole ≡ true → length page < out.held + length s → held_in page' r ≡ s
-  pub stays_cut : out.whole ≡ false → r.whole ≡ false
-  pub cut_empty : r.whole ≡ false → r.held ≡ 0
+-- The text s was put behind what the page held, which was written first where s didn't fit behind it.
+pub record Gathers {W : Type 0} (contents : W → Option (List ℕ)) (old : Page W) (s : List ℕ) (new : Page W) (r : Result (Unit {0}) Error) : Type 0 where
+  pub behind : IsOk r → held_count old + length s ≤ SIZE → held_in new ≡ held_in old ++ s
+  pub alone : IsOk r → SIZE < held_count old + length s → held_in new ≡ s
+  pub fits : IsSome old.held → held_count old + length s ≤ SIZE → IsOk r × (new.out ≡ old.out)
+  pub stops : Stops old new r
+  pub text : OnOk r (Appends (text_of contents old) (text_of contents new) s)

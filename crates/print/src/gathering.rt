@@ -1,91 +1,100 @@
-// Text on its way to standard output: it is gathered in a lent page and written a page at a time.
-ghost use Rattle.std.specs.Prelude.{◌≡◌, false, length};
-ghost use Rattle.print.specs.Gathering.{Flushed, RoomFor, Gathers};
+// Text on its way to a writer: it is gathered in a page and written a page at a time.
+ghost use Rattle.std.specs.Prelude.{◌≤◌, ◌≡◌, Some, IsOk, OnOk};
+ghost use Rattle.std.specs.Option.{ForSome};
+ghost use Rattle.std.specs.Io.KnownBytes.{Appends};
+ghost use Rattle.print.specs.declared.gathering.TheConstants.{SIZE};
 
-// How many bytes at the start of the page are still to be written, and whether every write before them took all that it was given. Where one
-// didn't, nothing more is gathered and nothing more is written: what stands on standard output is the beginning of the text.
+use std::{fmt, io};
+
+const SIZE: usize = 4096;
+
+// How many bytes at the start of the page are still to be written, or that a write failed: then nothing more is gathered and nothing more is
+// written, and what the writer has is the beginning of the text. The page has a fixed size: there is no heap.
 #[derive(Drop)]
-pub struct Gathered {
-    pub held: usize,
-    pub whole: bool,
+pub struct Page<W> {
+    out: W,
+    bytes: [u8; SIZE],
+    held: Option<usize>,
+    ghost within: { ForSome held (λ n. n ≤ SIZE) },
 }
 
-pub fn nothing() -> Gathered {
-    Gathered {
-        held: 0,
-        whole: true,
-    }
-}
-
-fn cut() -> Gathered
-    ensures { (result.held ≡ 0) × (result.whole ≡ false) }
+// Writes all of these bytes, or stops at the first write that takes nothing or fails. `write_all` would go on behind a write that a signal broke off, which counts as
+// one that failed.
+fn write_whole<W: io::Write>(out: &mut W, bytes: &[u8]) -> fmt::Result
+    ensures { OnOk result (Appends (W.contents out.old) (W.contents out.new) bytes.now) }
 {
-    Gathered {
-        held: 0,
-        whole: false,
-    }
-}
-
-// Writes all of these bytes, or stops at the first write that takes nothing or fails; tells whether all were taken.
-fn write_whole(rt: &impl Print, bytes: &[u8]) -> bool {
     let mut done = 0;
     while done < bytes.len() {
-        match rt.write_some(&bytes[done..]) {
-            Ok(0) | Err(_) => return false,
+        match out.write(&bytes[done..]) {
+            Ok(0) | Err(_) => return Err(fmt::Error),
             Ok(taken) => done += taken,
         }
     }
-    true
+    Ok(())
 }
 
-// Writes what the page holds.
-pub fn flush(rt: &impl Print, page: &[u8], out: Gathered) -> Gathered
-    ensures { Flushed out result }
-{
-    let held = out.held;
-    if !out.whole {
-        return cut();
+impl<W: io::Write> Page<W> {
+    ghost use Rattle.print.specs.Gathering.{Flushed, Gathers, RoomFor};
+
+    pub fn new(out: W) -> Page<W>
+        ensures writer { result.out ≡ out }
+        ensures empty { result.held ≡ Some 0 }
+    {
+        Page {
+            out,
+            bytes: [0; SIZE],
+            held: Some(0),
+        }
     }
-    if page.len() < held {
-        return cut();
+
+    // Writes what the page holds. It stands on its own in the program, so that the code that gathers a piece stays short.
+    #[inline(never)]
+    pub fn flush(&mut self) -> fmt::Result
+        ensures { Flushed W.contents self.old self.new result }
+    {
+        let held = self.held.take().ok_or(fmt::Error)?;
+        write_whole(&mut self.out, &self.bytes[..held])?;
+        self.held = Some(0);
+        Ok(())
     }
-    Gathered {
-        held: 0,
-        whole: write_whole(rt, &page[..held]),
+
+    // Where the next n bytes go in the page, which is written first where it is too full for them. A text is no longer than a page.
+    fn room(&mut self, n: usize) -> Result<usize, fmt::Error>
+        ensures { RoomFor W.contents n self.old self.new result }
+    {
+        let held = self.held.ok_or(fmt::Error)?;
+        if SIZE < n {
+            self.held = None;
+            return Err(fmt::Error);
+        }
+        if held <= SIZE - n {
+            return Ok(held);
+        }
+        self.flush()?;
+        Ok(0)
+    }
+
+    // Gathers a text behind what the page holds.
+    pub fn text(&mut self, s: &[u8]) -> fmt::Result
+        ensures { Gathers W.contents self.old s.now self.new result }
+    {
+        let held = self.room(s.len())?;
+        let end = held + s.len();
+        self.bytes[held..end].copy_from_slice(s);
+        self.held = Some(end);
+        Ok(())
     }
 }
 
-// Room for n more bytes in the page, which is written first where it is too full.
-fn room(rt: &impl Print, page: &[u8], out: Gathered, n: usize) -> Gathered
-    ensures { RoomFor (length page.now) n out result }
-{
-    let size = page.len();
-    if size < n {
-        return cut();
-    }
-    if out.held <= size - n {
-        return out;
-    }
-    let empty = flush(rt, page, out);
-    Gathered {
-        held: 0,
-        whole: empty.whole,
-    }
-}
+impl<W: io::Write> fmt::Write for Page<W> {
+    ghost use Rattle.print.specs.Gathering.{Gathers, text_of};
 
-// Gathers a text behind what the page holds. A text is no longer than a page.
-pub fn text(rt: &impl Print, page: &mut [u8], out: Gathered, s: &[u8]) -> Gathered
-    ensures { Gathers page.old out s.now page.new result }
-{
-    let ready = room(rt, page, out, s.len());
-    let held = ready.held;
-    if !ready.whole {
-        return cut();
-    }
-    let end = held + s.len();
-    page[held..end].copy_from_slice(s);
-    Gathered {
-        held: end,
-        whole: true,
+    ghost write_str_gives = { λ page s page'. Appends (text_of W.contents page) (text_of W.contents page') s };
+
+    fn write_str(&mut self, s: &str) -> fmt::Result
+        ensures ok { IsOk result → Appends (text_of W.contents self.old) (text_of W.contents self.new) s.now }
+        ensures gathers { Gathers W.contents self.old s.now self.new result }
+    {
+        self.text(s.as_bytes())
     }
 }

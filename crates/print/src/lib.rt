@@ -1,9 +1,6 @@
-// Lines on standard output.
+// Text that is gathered in a page and written a page at a time.
 #![tactic(auto)]
 
 mod gathering;
-mod lines;
-mod words;
 
-pub use gathering::{Gathered, flush, nothing, text};
-pub use lines::{byte, number, pair, refusal};
+pub use gathering::Page;

@@ -1,3 +1,6 @@
 pub mod TableLaws
 pub mod FirstLaws
 pub mod AnswerLaws
+pub mod RefusedLaws
+pub mod SpelledLaws
+pub mod Unique

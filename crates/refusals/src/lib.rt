@@ -1,3 +1,6 @@
+// When the planner says no: the refusals, with their numbers, their words and the places that they name.
 #![tactic(auto)]
 
-// The meaning of a refusal, and its laws; no function.
+mod refusal;
+
+pub use refusal::Refusal;

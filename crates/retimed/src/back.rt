@@ -4,18 +4,18 @@ ghost use Rattle.lists.specs.Front.{at};
 ghost use Rattle.dataflow.specs.Counts.{sum};
 ghost use Rattle.retimed.specs.Back.{CoversAll, BackOf, Small, StartFirings};
 
-use chain::{larger, rounded_up};
-
-// Back. One step for each station.
+// Back. One step for each station. Not a method of `Round`, which asks more than `Small` does; nor is `start_firings`.
 pub fn back_of(n: usize, q: &[u32; 32], retiming: &[u32; 32]) -> u32
     requires { Small n q.now retiming.now }
     ensures { BackOf n q.now retiming.now result }
 {
-    let mut back = 0;
-    for v in 0..n {
-        back = larger(back, rounded_up(retiming[v], q[v]));
-    }
-    back
+    retiming
+        .iter()
+        .zip(q)
+        .take(n)
+        .map(|(r, q)| r.div_ceil(*q))
+        .max()
+        .unwrap_or(0)
 }
 
 // The firings of the start list, station by station. One step for each station.
@@ -24,6 +24,7 @@ pub fn start_firings(n: usize, q: &[u32; 32], retiming: &[u32; 32], back: u32) -
     ensures { StartFirings n q.now retiming.now back result }
 {
     let mut firings = [0u32; 32];
+    // By place, as in `chain::widened`: a zip of three columns is no plainer, and `from_fn` would need a test for the entries that stay 0.
     for v in 0..n {
         firings[v] = back * q[v] - retiming[v];
     }
@@ -35,9 +36,5 @@ pub fn add(n: usize, firings: &[u32; 32]) -> usize
     requires { (n ≤ 32) × ((v : ℕ) → v < n → at firings.now v ≤ 65280) }
     ensures { result ≡ sum n (at firings.now) }
 {
-    let mut total = 0;
-    for v in 0..n {
-        total += firings[v] as usize;
-    }
-    total
+    firings[..n].iter().map(|x| *x as usize).sum()
 }

@@ -72,7 +72,7 @@ module _ (n m : ℕ) (source sink produced consumed delay : List ℕ) (count : �
     pub peaks_none : {room : List ℕ} → Covered m delay room → Lifted (λ e. e < m) (Peaks n m source sink produced consumed delay 0 list) room room
     peaks_none c = record {
       long = refl;
-      is = λ e h. (at delay e, (λ l time q. rw (fill_first (G time q) D (e, l)) at (peak_none (G time q) (initially (G time q) D) (e, l))), omega (arith, c.covers e h));
+      is = λ e h. (at delay e, (λ l time q. rw (fill_first (G time q) D (e, l)) at (peak_none (G time q) (initially (G time q) D) (e, l))), omega (arith, c e h));
       rest = λ e h. refl;
     }
 

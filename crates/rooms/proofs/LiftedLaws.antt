@@ -1,6 +1,6 @@
 -- The laws of entries that are lifted.
 use Prim.Native.Nat.{ℕ, ◌<◌, max}
-use mathlib.Core.Path.{◌≡◌, refl, ap, ◌∙◌}
+use mathlib.Core.Path.{◌≡◌, ap, ◌∙◌}
 use mathlib.Core.List.{List}
 use native.Mathlib.Decide.{ℕ_discrete}
 use lib.ListN.{length, set, length-set}
@@ -9,11 +9,7 @@ use Rattle.lists.specs.Front.{at}
 use Rattle.rooms.specs.Lifted.{Lifted}
 
 module _ {P : ℕ → ℕ → Type 0} where
-  -- none is lifted yet
-  pub lifted_none : {Place : ℕ → Type 0} (l : List ℕ) → ((e : ℕ) → ¬ Place e) → Lifted Place P l l
-  lifted_none l none = record { long = refl; is = λ e h. absurd (none e h); rest = λ e h. refl }
-
-  -- and one more, at the place e that comes to the others
+  -- one more is lifted, at the place e that comes to the others
   pub lifted_more : {Place Place' : ℕ → Type 0} {before now : List ℕ} (e x y : ℕ) → e < length now → ¬ Place e → Place' e → ((k : ℕ) → Place k → Place' k) → ((k : ℕ) → Place' k → ¬ (k ≡ e) → Place k)
       → P e x → y ≡ max (at now e) x → Lifted Place P before now → Lifted Place' P before (set now e y)
   lifted_more {now = now} e x y h new here kept others p is r = record {

@@ -6,9 +6,9 @@ use native.Mathlib.Omega.{arith}
 use lib.ListN.{length, set}
 use Rattle.lists.specs.Front.{at}
 use Rattle.lists.proofs.Order.{order}
-use Rattle.firing.specs.Thread.{FirstAt}
+use Rattle.chain.specs.Thread.{FirstAt}
 use Rattle.rooms.specs.Lifted.{Lifted, OutOf}
-use Rattle.rooms.proofs.LiftedLaws.{lifted_none, lifted_more}
+use Rattle.rooms.proofs.LiftedLaws.{lifted_more}
 
 module _ (m : ℕ) (source : List ℕ) (v : ℕ) (P : ℕ → ℕ → Type 0) (before : List ℕ) where
   -- the queues out of v below e are lifted, and e is the next of them
@@ -16,9 +16,6 @@ module _ (m : ℕ) (source : List ℕ) (v : ℕ) (P : ℕ → ℕ → Type 0) (b
     pub within : e ≤ m
     pub goes : e < m → at source e ≡ v
     pub lifted : Lifted (λ k. (k < e) × OutOf m source v k) P before now
-
-  pub below_none : {r : ℕ} → FirstAt m source v 0 r → LiftedBelow r before
-  below_none f = record { within = f.within; goes = f.goes; lifted = lifted_none before (λ k h. f.passed k (omega arith) h.0 h.1.1) }
 
   pub below_more : {e r : ℕ} {now : List ℕ} (x y : ℕ) → e < m → e < length now → P e x → y ≡ max (at now e) x → FirstAt m source (at source e) (suc e) r → LiftedBelow e now → LiftedBelow r (set now e y)
   below_more {e} {r} x y h b p is f z =
@@ -29,6 +26,3 @@ module _ (m : ℕ) (source : List ℕ) (v : ℕ) (P : ℕ → ℕ → Type 0) (b
         lifted = lifted_more e x y b (λ a. omega (arith, a.0)) (omega (arith, f.ahead), (h, out)) (λ k a. (omega (arith, a.0, f.ahead), a.1))
             (λ k a w. (order k e (λ lt. lt) (λ eq. absurd (w eq)) (λ gt. absurd (f.passed k gt a.0 (a.1.1 ∙ sym out))), a.1)) p is z.lifted;
       }
-
-  pub below_all : {e : ℕ} {now : List ℕ} → m ≤ e → LiftedBelow e now → Lifted (OutOf m source v) P before now
-  below_all h z = record { long = z.lifted.long; is = λ k a. z.lifted.is k (omega (arith, a.0), a); rest = λ k a. z.lifted.rest k (λ b. a b.1) }

@@ -3,7 +3,7 @@ use Prim.Native.Nat.{ℕ, ◌≤◌, ◌<◌, max}
 use mathlib.Core.Path.{◌≡◌, ◌∙◌}
 use mathlib.Core.List.{List, []}
 use native.Mathlib.Omega.{arith}
-use lib.ListN.{length, take}
+use lib.ListN.{take}
 use Rattle.lists.specs.Front.{at}
 use Rattle.dataflow.specs.Net.{Net}
 use Rattle.dataflow.specs.Runs.{initially}
@@ -24,14 +24,11 @@ module _ {n m : ℕ} {source sink produced consumed delay new : List ℕ} {start
 
   module _ {some : List ℕ} (r : Lifted (λ e. e < m) (Peaks n m source sink produced consumed delay starts start) delay some) where
     -- what the start list leaves is covered too
-    pub new_covered : length delay ≡ 64 → Covered m new some
-    new_covered long = record { long = r.long ∙ long; covers = covers }
-      where
-        covers : (e : ℕ) → e < m → at new e ≤ at some e
-        covers e h =
-            let a = r.is e h in
-            let S = initially (G [] []) d in
-            omega (arith, a.2, peak_computed (G [] []) (a.1 h [] []), peak_last (G [] []) S (take starts start) (e, h), b.leaves [] [] (e, h))
+    pub new_covered : Covered m new some
+    new_covered e h =
+        let a = r.is e h in
+        let S = initially (G [] []) d in
+        omega (arith, a.2, peak_computed (G [] []) (a.1 h [] []), peak_last (G [] []) S (take starts start) (e, h), b.leaves [] [] (e, h))
 
     pub rooms_are : {all : List ℕ} → Lifted (λ e. e < m) (Peaks n m source sink produced consumed new total round) some all → RoomsOf n m source sink produced consumed delay starts total start round all
     rooms_are {all} k = record { is = is; rest = λ e h. k.rest e (λ l. omega arith) ∙ r.rest e (λ l. omega arith) ∙ b.rest e h }

@@ -1,23 +1,40 @@
 -- The laws of a stretch of entries that are the same.
 use Prim.Native.Nat.{ℕ, zero, suc, ◌+◌, ◌-◌, ◌≤◌, ◌<◌}
-use mathlib.Core.Path.{◌≡◌, sym, ap, ap₂, ◌∙◌}
+use mathlib.Core.Path.{◌≡◌, refl, sym, ap, ap₂, ◌∙◌}
+use mathlib.Core.Bool.{Bool}
 use mathlib.Core.List.{List, [], ◌∷◌, ◌++◌, append_assoc, append-nil}
 use native.Mathlib.Omega.{arith}
-use lib.ListN.{length, take, replicate, replicate-append-replicate}
+use lib.ListN.{length, take, drop, replicate, replicate-append-replicate}
 use lib.Seq.{take-suc}
+use lib.Dec.{eqb}
+use Rattle.std.proofs.lemmas.Bool.{eq-eqb, eqb-true, eqb-false}
+use Rattle.std.specs.List.{prefix_len}
+use Rattle.std.proofs.lemmas.List.{get_or-drop, length-drop}
+use Rattle.std.proofs.lemmas.List.Sums.{prefix_len-drop_yes, prefix_len-le-length, prefix_len_passes, prefix_len_stops}
 use Rattle.lists.specs.Front.{at}
-use Rattle.lists.proofs.Order.{order}
 use Rattle.rooms.specs.Lifted.{StretchEnds}
 
--- the entries from `from` on and before `end` are the same
-abbrev pub Same : (list : List ℕ) (from end : ℕ) → Type 0
-Same list from end = (k : ℕ) → from ≤ k → k < end → at list k ≡ at list from
+-- whether an entry is the same as the one at `from`
+abbrev pub alike : (list : List ℕ) (from entry : ℕ) → Bool
+alike list from entry = eqb entry (at list from)
 
-pub same_one : (list : List ℕ) (from : ℕ) → Same list from (from + 1)
-same_one list from k a b = ap (at list) (omega arith)
+-- how many entries from there on are
+abbrev pub alike_from : (list : List ℕ) (from : ℕ) → ℕ
+alike_from list from = prefix_len (alike list from) (drop from list)
 
-pub same_more : (list : List ℕ) (from end : ℕ) → Same list from end → at list end ≡ at list from → Same list from (end + 1)
-same_more list from end same h k a b = order k end (λ lt. same k a lt) (λ eq. ap (at list) eq ∙ h) (λ gt. absurd (omega arith))
+pub stretch_found : (list : List ℕ) (from : ℕ) → from < length list → StretchEnds list (length list) from (from + alike_from list from)
+stretch_found list from here =
+    let p = alike list from in
+    let rest = drop from list in
+    let place : (k : ℕ) → at rest k ≡ at list (from + k) = λ k. get_or-drop from list k 0 in
+    record {
+      some = omega (arith, prefix_len-drop_yes p list from 0 here (eq-eqb (at list from) (at list from) refl));
+      within = omega (arith, prefix_len-le-length p rest, length-drop from list);
+      same = λ k a b.
+          let e : from + (k - from) ≡ k = omega arith in
+          sym (ap (at list) e) ∙ sym (place (k - from)) ∙ eqb-true _ _ (prefix_len_passes p rest (k - from) 0 (omega arith));
+      ends = λ l e. eqb-false _ _ (prefix_len_stops p rest 0 (omega (arith, length-drop from list))) (place (alike_from list from) ∙ e);
+    }
 
 module _ {list : List ℕ} {count from end : ℕ} (long : count ≤ length list) (stretch : StretchEnds list count from end) where
   part_taken : (k : ℕ) → from + k ≤ end → take (from + k) list ≡ take from list ++ replicate k (at list from)

@@ -24,9 +24,8 @@ abbrev pub AllPut : (m : ℕ) (source sink produced consumed delay fired : List 
 AllPut m source sink produced consumed delay fired = (e : ℕ) → e < m → at fired (at sink e) * at consumed e ≤ at delay e + at fired (at source e) * at produced e
 
 -- each room covers its queue's delay
-pub record Covered (m : ℕ) (delay room : List ℕ) : Type 0 where
-  pub long : length room ≡ 64
-  pub covers : (e : ℕ) → e < m → at delay e ≤ at room e
+abbrev pub Covered : (m : ℕ) (delay room : List ℕ) → Type 0
+Covered m delay room = (e : ℕ) → e < m → at delay e ≤ at room e
 
 -- r is the place behind the entries from `from` on, before count, that are the same
 pub record StretchEnds (list : List ℕ) (count from r : ℕ) : Type 0 where

@@ -1,6 +1,5 @@
 -- The laws of a search in the making.
 use mathlib.Core.Path.{◌≡◌, ap}
-use mathlib.Core.Bool.{true}
 use mathlib.Core.List.{List}
 use mathlib.Core.Logic.{⊎_elim}
 use Prim.Native.Nat.{ℕ, ◌+◌, ◌*◌, ◌≤◌, ◌<◌, ◌^◌}
@@ -28,8 +27,8 @@ use Rattle.dataflow.proofs.RaiseLaws.{raise_legal, raised_by}
 use Rattle.dataflow.proofs.SumLaws.{sum_above, sum_none, sum_same}
 use Rattle.dataflow.proofs.WholeLaws.{Retimed, retimed_is, whole_retimed}
 use Rattle.chain.specs.Chain.{DelaysGiven, CountedChain, net_of, delays_of}
-use Rattle.firing.specs.Late.{Readable, LatestEnd, LateCounts}
-use Rattle.firing.specs.Times.{Bases, Ordered, Tabled}
+use Rattle.firing.specs.Late.{LatestEnd, LateCounts}
+use Rattle.firing.specs.Times.{Ordered, Tabled}
 use Rattle.firing.proofs.PeriodLaws.{period_is, late_is}
 use Rattle.chain.proofs.ChainLaws.{sound, count_few}
 use Rattle.search.specs.Cut.{keeps, late_first, Cuttable, Reordered}
@@ -80,20 +79,10 @@ module _ (n m : ℕ) (source sink produced consumed delay time q : List ℕ) (to
       abbrev D : Below m → ℕ
       D = delays_of m current
 
-      module _ {base table : List ℕ} (b : Bases n q base) (t : Tabled n m source sink produced consumed current time q total table) where
-        pub readable : Readable n q base table
-        readable = record {
-          some = c.chain.some;
-          few = c.chain.few;
-          positive = c.positive;
-          begins = b;
-          fits = omega (arith, c.adds, c.few);
-          starts = t.starts;
-        }
-
+      module _ {table : List ℕ} (t : Tabled n m source sink produced consumed current time q total table) where
         module _ {period : ℕ} (l : LatestEnd n q time table period) where
           -- nothing is late
-          pub ended : period ≤ target → Retimes n m source sink produced consumed delay time q total target (record { serves = true; rounds = rounds; period = period; retiming = retiming; delay = current; table = table })
+          pub ended : period ≤ target → Retimes n m source sink produced consumed delay time q total target (record { rounds = rounds; period = period; retiming = retiming; delay = current; table = table })
           ended h =
               let P = period_is n m source sink produced consumed current time q total c u.ordered t l in
               let ends : SearchEnds G d target rounds (at retiming) = record { searched = u.searched; none_late = λ v i x. none_late (rw (retimed_is G d (at retiming) D u.retimed) at x) } in

@@ -1,11 +1,11 @@
 -- No second answer meets the search's contract.
 use Prim.Native.Nat.{ℕ, ◌*◌}
 use mathlib.Core.Path.{◌≡◌, refl, sym, ap, subst, ◌∙◌}
-use mathlib.Core.Bool.{Bool, true, false}
 use mathlib.Core.List.{List}
 use native.Mathlib.Omega.{arith}
 use lib.ListN.{length, take}
 use lib.Seq.{ext_get_or, take_all}
+use Rattle.std.specs.Prelude.{Option, Some, None}
 use Rattle.lists.specs.Front.{at}
 use Rattle.lists.proofs.FilledLaws.{same_list}
 use Rattle.dataflow.specs.Net.{Net, Sound}
@@ -27,11 +27,15 @@ use Rattle.search.specs.Found.{Retimes, Searches}
 use Rattle.search.specs.declared.Found.{Found}
 use Rattle.search.proofs.FoundLaws.{new_delays_lem}
 
--- the lists of an answer have their lengths
+-- the lists of a retiming that was found have their lengths
 pub record Sized (r : Found) : Type 0 where
   pub retimings : length r.retiming ≡ 32
   pub delays : length r.delay ≡ 64
   pub starts : length r.table ≡ 256
+
+abbrev pub SizedAnswer : Option Found → Type 0
+SizedAnswer (Some r) = Sized r
+SizedAnswer None = Unit {0}
 
 module _ (n m : ℕ) (source sink produced consumed delay time q : List ℕ) (total target : ℕ) (c : CountedChain n m source sink produced consumed q total)
     (list : List ℕ) (o : Ordered n m source sink produced consumed delay time q total list) where
@@ -59,8 +63,8 @@ module _ (n m : ℕ) (source sink produced consumed delay time q : List ℕ) (to
       (f.0, record { long = omega (arith, e, c.adds); run = rw all (list_run G (at q) l); whole = rw all (list_fired G (at q) l) })
 
   module _ (r r' : Found) (s : Sized r) (s' : Sized r') where
-    same_accepted : Accepts r → Accepts r' → r.serves ≡ r'.serves → r ≡ r'
-    same_accepted h h' e = λ i. record { serves = e i; rounds = rounds i; period = period i; retiming = retiming i; delay = delays i; table = table i }
+    same_accepted : Accepts r → Accepts r' → r ≡ r'
+    same_accepted h h' = λ i. record { rounds = rounds i; period = period i; retiming = retiming i; delay = delays i; table = table i }
       where
         rounds : r.rounds ≡ r'.rounds
         rounds = rounds_once G W d target h.rounds h'.rounds
@@ -82,11 +86,9 @@ module _ (n m : ℕ) (source sink produced consumed delay time q : List ℕ) (to
             let l = new_order r h in
             table_unique n m source sink produced consumed r.delay time q total c l.0 l.1 r.table r'.table h.table (rw (sym delays) at h'.table) (s.starts ∙ sym s'.starts)
 
-    pub search_unique : Searches n m source sink produced consumed delay time q total target r → Searches n m source sink produced consumed delay time q total target r' → r ≡ r'
-    search_unique p p' = go r.serves r'.serves refl refl
-      where
-        go : (b b' : Bool) → r.serves ≡ b → r'.serves ≡ b' → r ≡ r'
-        go true true e e' = same_accepted (p.found e) (p'.found e') (e ∙ sym e')
-        go false false e e' = (p.none e).nothing ∙ sym (p'.none e').nothing
-        go true false e e' = absurd ((p'.none e').none (whole (at r.retiming)) (p.found e).retiming.serves)
-        go false true e e' = absurd ((p.none e).none (whole (at r'.retiming)) (p'.found e').retiming.serves)
+  pub search_unique : (r r' : Option Found) → SizedAnswer r → SizedAnswer r' → Searches n m source sink produced consumed delay time q total target r
+      → Searches n m source sink produced consumed delay time q total target r' → r ≡ r'
+  search_unique (Some f) (Some f') s s' p p' = ap Some (same_accepted f f' s s' p p')
+  search_unique (Some f) None s s' p p' = absurd (p'.none (whole (at f.retiming)) p.retiming.serves)
+  search_unique None (Some f') s s' p p' = absurd (p.none (whole (at f'.retiming)) p'.retiming.serves)
+  search_unique None None s s' p p' = refl

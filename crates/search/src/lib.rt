@@ -7,11 +7,10 @@ mod rounds;
 
 pub use rounds::search;
 
-// The plan's retiming, with the rounds of the search that raised something, the new delays, their period and their time table.
-// Where no whole numbers serve, serves is false and every number 0.
+// The plan's retiming, with the rounds of the search that raised something, the new delays, their period and their time table,
+// in columns of a fixed length: there is no heap.
 #[derive(Clone, Copy)]
 pub struct Found {
-    pub serves: bool,
     pub rounds: usize,
     pub period: u32,
     pub retiming: [u32; 32],

@@ -5,12 +5,13 @@ ghost use Rattle.lists.specs.Put.{put};
 ghost use Rattle.lists.specs.Test.{Tells};
 ghost use Rattle.search.specs.Cut.{Between, Keeps, Gatherable, Cuttable, Reordered, between, none_fired};
 
-use chain::wide;
+use chain::Round;
 
+// A function of its own, since `Tells` speaks of its answer.
 fn is_between(low: u32, x: u32, high: u32) -> bool
     ensures { Tells result (Between low x high) }
 {
-    if low <= x { x < high } else { false }
+    (low..high).contains(&x)
 }
 
 // The copies of each station that aren't late. n steps.
@@ -19,6 +20,7 @@ fn kept(n: usize, q: &[u32; 32], late: &[u32; 32]) -> [u32; 32]
     ensures { Keeps n q.now late.now result }
 {
     let mut keep = [0u32; 32];
+    // By place, as in `chain::widened`; and `from_fn` would need a test for the entries that stay 0.
     for v in 0..n {
         keep[v] = q[v] - late[v];
     }
@@ -26,7 +28,7 @@ fn kept(n: usize, q: &[u32; 32], late: &[u32; 32]) -> [u32; 32]
 }
 
 // Stores, from a place on, the entries of the list that are firings of their station from number low on and before number high. Hands back the place behind them.
-// One step for each entry.
+// One step for each entry. The list has room for any round and holds one in its first entries: there is no heap.
 fn gather(
     total: usize,
     low: &[u32; 32],
@@ -40,32 +42,26 @@ fn gather(
 {
     let mut fired = [0u32; 32];
     let mut place = from;
-    for k in 0..total {
-        let v = wide(list[k]);
+    for station in &list[..total] {
+        let v = usize::from(*station);
         if is_between(low[v], fired[v], high[v]) {
-            order[place] = list[k];
+            order[place] = *station;
             place += 1;
         }
-        fired[v] = fired[v] + 1;
+        fired[v] += 1;
     }
     place
 }
 
 // The late copies in the order of the list, then the others. Two steps for each copy.
-pub(crate) fn reorder(
-    n: usize,
-    total: usize,
-    q: &[u32; 32],
-    late: &[u32; 32],
-    list: &[u16; 256],
-) -> [u16; 256]
-    requires { Cuttable n total q.now late.now list.now }
-    ensures { Reordered q.now late.now total list.now result }
+pub(crate) fn reorder(round: &Round, late: &[u32; 32], list: &[u16; 256]) -> [u16; 256]
+    requires { Cuttable round.now.chain.n round.now.total round.now.q late.now list.now }
+    ensures { Reordered round.now.q late.now round.now.total list.now result }
 {
     let none = [0u32; 32];
-    let keep = kept(n, q, late);
+    let keep = kept(round.chain.n, &round.q, late);
     let mut order = [0u16; 256];
-    let place = gather(total, &keep, q, list, 0, &mut order);
-    gather(total, &none, &keep, list, place, &mut order);
+    let place = gather(round.total, &keep, &round.q, list, 0, &mut order);
+    gather(round.total, &none, &keep, list, place, &mut order);
     order
 }

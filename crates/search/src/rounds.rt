@@ -1,74 +1,46 @@
 // The search.
-ghost use Rattle.std.specs.Prelude.{◌≡◌};
-ghost use Rattle.chain.specs.Chain.{DelaysGiven, CountedChain};
+ghost use Rattle.chain.specs.Chain.{DelaysGiven};
 ghost use Rattle.firing.specs.Times.{Ordered};
-ghost use Rattle.search.specs.Found.{nothing_found, Searches};
+ghost use Rattle.search.specs.Found.{Searches};
 
 use crate::Found;
 use crate::order::reorder;
 use crate::raise::{new_delays, raised};
-
-fn nothing_found() -> Found
-    ensures { result ≡ nothing_found }
-{
-    Found {
-        serves: false,
-        rounds: 0,
-        period: 0,
-        retiming: [0; 32],
-        delay: [0; 64],
-        table: [0; 256],
-    }
-}
+use chain::Round;
 
 // Raises every station at once by its late copies until none is late, from an order in which the round can be fired. At most N time tables; with N of
 // them late nothing serves.
 pub fn search(
-    n: usize,
-    m: usize,
-    total: usize,
-    source: &[u16; 64],
-    sink: &[u16; 64],
-    produced: &[u16; 64],
-    consumed: &[u16; 64],
+    round: &Round,
     delay: &[u32; 64],
-    q: &[u32; 32],
     time: &[u16; 32],
     target: u32,
     list: &[u16; 256],
-) -> Found
-    requires { CountedChain n m source.now sink.now produced.now consumed.now q.now total × (DelaysGiven m delay.now × Ordered n m source.now sink.now produced.now consumed.now delay.now time.now q.now total list.now) }
-    ensures { Searches n m source.now sink.now produced.now consumed.now delay.now time.now q.now total target result }
+) -> Option<Found>
+    requires { DelaysGiven round.now.chain.m delay.now × Ordered round.now.chain.n round.now.chain.m round.now.chain.source round.now.chain.sink round.now.chain.produced round.now.chain.consumed delay.now time.now round.now.q round.now.total list.now }
+    ensures { Searches round.now.chain.n round.now.chain.m round.now.chain.source round.now.chain.sink round.now.chain.produced round.now.chain.consumed delay.now time.now round.now.q round.now.total target result }
 {
-    let base = firing::bases(n, q);
-    let out = firing::threads(n, m, source);
-    let head = out.head;
-    let next = out.next;
+    let n = round.chain.n;
     let mut retiming = [0u32; 32];
     let mut current = *delay;
     let mut order = *list;
-    let mut rounds = 0;
-    while rounds < total {
-        let table = firing::time_table(
-            n, m, total, source, sink, produced, consumed, &current, &head, &next, q, &base, time,
-            &order,
-        );
-        let period = firing::latest_end(n, q, &base, time, &table);
+    for rounds in 0..round.total {
+        let table = firing::time_table(round, time, &current, &order);
+        let period = firing::latest_end(n, &round.q, &round.base, time, &table);
         if period <= target {
-            return Found {
-                serves: true,
+            let found = Found {
                 rounds,
                 period,
                 retiming,
                 delay: current,
                 table,
             };
+            return Some(found);
         }
-        let late = firing::late_counts(n, q, &base, time, target, &table);
-        order = reorder(n, total, q, &late, &order);
-        current = new_delays(m, source, sink, produced, consumed, &late, &current);
+        let late = firing::late_counts(n, &round.q, &round.base, time, target, &table);
+        order = reorder(round, &late, &order);
+        current = new_delays(&round.chain, &late, &current);
         retiming = raised(n, &late, &retiming);
-        rounds += 1;
     }
-    nothing_found()
+    None
 }

@@ -1,50 +1,23 @@
 -- The laws of a sheet's layout.
-use Prim.Native.Nat.{ℕ, zero, suc, ◌+◌, ◌*◌, ◌≤◌}
-use mathlib.Core.Path.{◌≡◌, refl, ap, ap₂, ◌∙◌}
+use Prim.Native.Nat.{ℕ, ◌+◌, ◌*◌}
+use mathlib.Core.Path.{◌≡◌, refl, ap, ap₂}
 use mathlib.Core.List.{List}
 use lib.ListN.{length, length-append}
 use native.Mathlib.Omega.{arith}
 use Rattle.lists.specs.Joined.{joined}
 use Rattle.lists.proofs.JoinedLaws.{length_joined}
-use Rattle.little.specs.Little.{Apart, column_at, two, four}
+use Rattle.little.specs.Little.{column_at, two, four}
 use Rattle.sheet.specs.declared.Sheet.{Sheet}
 use Rattle.sheet.specs.Format.{version, stations, queues, target, queue_size, queue_start, padded, sheet_of, header_bytes, station_bytes, queue_bytes, bytes_of}
 use Rattle.sheet.specs.Read.{Passes}
-
--- a version other than 1 has no record size
-pub size_none : (v : ℕ) → (v ≡ 1 → ⊥) → 0 ≡ queue_size v
-size_none zero h = refl
-size_none (suc zero) h = absurd (h refl)
-size_none (suc (suc v)) h = refl
-
-size_some : (v : ℕ) → (queue_size v ≡ 0 → ⊥) → v ≡ 1
-size_some zero h = absurd (h refl)
-size_some (suc zero) h = refl
-size_some (suc (suc v)) h = absurd (h refl)
-
--- what a record size of x tells of the version v that x is
-module _ {v x size : ℕ} (is : x ≡ v) (sized : size ≡ queue_size x) where
-  pub unknown : size ≡ 0 → v ≡ 1 → ⊥
-  unknown z e = let w : queue_size x ≡ 10 = ap queue_size (is ∙ e) in omega arith
-
-  pub known : (size ≡ 0 → ⊥) → v ≡ 1
-  known h = size_some v (λ e. h (sized ∙ ap queue_size is ∙ e))
 
 -- the bytes of the queue part, whatever they are called
 pub part_same : {k m k' m' : ℕ} → k ≡ k' → m ≡ m' → k * m ≡ k' * m'
 part_same p q = ap₂ ◌*◌ p q
 
--- a column of queue fields lies within the sheet
-module _ (s : List ℕ) (ok : Passes s) where
-  pub ends : length s ≡ 20 + 4 * stations s + 10 * queues s
-  ends = omega (arith, part_same {m = queues s} (ap queue_size ok.known) refl, ok.laid.ends)
-
-  pub queues_apart : {m size : ℕ} (from : ℕ) → m ≡ queues s → size ≡ queue_size (version s) → from ≤ queue_start (stations s) + 8 → Apart from size m (length s) 64
-  queues_apart from e z h =
-      record {
-        fits = omega (arith, ok.header.counts);
-        within = λ i l. omega (arith, ends, part_same {m = i} (z ∙ ap queue_size ok.known) refl);
-      }
+-- the length of such bytes
+pub ends : (s : List ℕ) → Passes s → length s ≡ 20 + 4 * stations s + 10 * queues s
+ends s ok = omega (arith, part_same {m = queues s} (ap queue_size ok.known) refl, ok.laid.ends)
 
 -- the sheet, from its parts as they were read
 pub sheet_is : (s : List ℕ) {v n m t size : ℕ} {tag time source sink produced consumed delay : List ℕ}

@@ -5,16 +5,17 @@ use mathlib.Core.List.{List, ◌++◌}
 use native.Mathlib.Omega.{arith}
 use lib.ListN.{length, take, length-append, get_or-append}
 use lib.Seq.{get_or-append-add, take_at}
+use Rattle.std.specs.Prelude.{Result, Ok}
 use Rattle.lists.specs.Front.{at}
 use Rattle.lists.specs.Joined.{joined}
 use Rattle.lists.proofs.FrontLaws.{front_same}
 use Rattle.lists.proofs.JoinedLaws.{at_joined}
 use Rattle.little.specs.Little.{two, four, column_at}
 use Rattle.refusals.specs.First.{Passed}
-use Rattle.refusals.proofs.FirstLaws.{passed, none, all_passed}
+use Rattle.refusals.specs.declared.refusal.Refusal.{Refusal}
+use Rattle.refusals.proofs.FirstLaws.{all_passed}
+use Rattle.refusals.proofs.RefusedLaws.{given, passes}
 use Rattle.sheet.specs.declared.Sheet.{Sheet}
-use Rattle.sheet.specs.declared.Reading.{Reading}
-use Rattle.sheet.specs.declared.Written.{Written}
 use Rattle.sheet.specs.Limits.{CountsFit}
 use Rattle.sheet.specs.Format.{version, stations, queues, zero_field, station_offset, queue_offset, target, queue_start, header_bytes, station_bytes, queue_bytes, bytes_of, padded, queue_size, sheet_of}
 use Rattle.sheet.specs.Read.{HeaderFits, Laid, field_row, Reads}
@@ -117,7 +118,7 @@ module _ (f : Sheet) where
       (queue_back f.delay _ 8 refl (omega arith) (λ e. refl) (λ e. refl))
 
   -- and reading accepts them where the sheet is within limits
-  pub reads_back : f.version ≡ 1 → CountsFit f.n f.m → Passed (field_row f) → Reads (bytes_of f) (record { number = 0; place = 0; sheet = filled f })
+  pub reads_back : f.version ≡ 1 → CountsFit f.n f.m → Passed (field_row f) → Reads (bytes_of f) (Ok (filled f))
   reads_back known counts clear =
       let s = bytes_of f in
       let header : HeaderFits s = record { counts = omega (arith, counts, stations_back, queues_back); zero = zero_back } in
@@ -128,23 +129,19 @@ module _ (f : Sheet) where
         ends = omega (arith, length_bytes f, stations_back, part_same (ap queue_size (version_back ∙ known)) queues_back);
       }
       in
-      record {
-        verdict =
-            passed (λ p h. omega (arith, length_bytes f))
-            (passed (λ p h. h (version_back ∙ known))
-            (passed (λ p h. h header)
-            (passed (λ p h. h laid)
-            (passed (rw (← sheet_back known) (passed_same (filled_same f) clear)) none))));
-        accepted = λ e. sheet_back known;
-        refused = λ n. absurd (n refl);
-      }
+      passes (λ p h. omega (arith, length_bytes f))
+      (passes (λ p h. h (version_back ∙ known))
+      (passes (λ p h. h header)
+      (passes (λ p h. h laid)
+      (passes (rw (← sheet_back known) (passed_same (filled_same f) clear))
+      (given (filled f) (sheet_back known))))))
 
 -- reading what was written gives the same sheet
-pub read_back : (f : Sheet) (before after : List ℕ) (w : Written) → Writes f before after w → w.number ≡ 0 → (r : Reading) → Reads (take w.length after) r → r ≡ record { number = 0; place = 0; sheet = filled f }
-read_back f before after w p e r q =
-    let ok = writable f p.judged.verdict e in
-    let long : w.length ≡ length (bytes_of f) =
-    omega (arith, p.judged.accepted e, length_bytes f, part_same {m = f.m} (ap queue_size ok.known) refl)
+pub read_back : (f : Sheet) (before after : List ℕ) (long : ℕ) → Writes f before after (Ok long) → (r : Result Sheet Refusal) → Reads (take long after) r → r ≡ Ok (filled f)
+read_back f before after long p r q =
+    let ok = writable f p.judged.verdict refl in
+    let whole : length (bytes_of f) ≡ long =
+    omega (arith, p.judged.accepted, length_bytes f, part_same {m = f.m} (ap queue_size ok.known) refl)
     in
-    let same : take w.length after ≡ bytes_of f = rw (p.accepted e) (take_at (bytes_of f) _ w.length (sym long)) in
-    read_unique (bytes_of f) r _ (rw same at q) (reads_back f ok.known ok.counts (all_passed p.judged.verdict e 2 (omega arith)))
+    let same : take long after ≡ bytes_of f = rw p.accepted (take_at (bytes_of f) _ long whole) in
+    read_unique (bytes_of f) r _ (rw same at q) (reads_back f ok.known ok.counts (all_passed p.judged.verdict refl 2 (omega arith)))

@@ -5,6 +5,7 @@ use mathlib.Core.List.{List, ◌++◌}
 use native.Mathlib.Omega.{arith}
 use lib.ListN.{length, take, drop, replicate, length-replicate}
 use lib.Seq.{get_or-take, length-take-le}
+use Rattle.std.specs.Prelude.{Result, Ok}
 use Rattle.lists.specs.Front.{at}
 use Rattle.lists.specs.Part.{part}
 use Rattle.lists.proofs.FrontLaws.{at_front, length_front}
@@ -12,18 +13,19 @@ use Rattle.lists.proofs.PartLaws.{part_join, part_all, part_joined}
 use Rattle.lists.proofs.JoinedLaws.{joined_same}
 use Rattle.little.specs.Little.{Bytes, two, four, column_at}
 use Rattle.little.proofs.LittleLaws.{two_u16, four_u32}
-use Rattle.refusals.specs.First.{Passed, First}
-use Rattle.refusals.proofs.FirstLaws.{unique, all_passed}
-use Rattle.sheet.specs.declared.Reading.{Reading}
-use Rattle.sheet.specs.declared.Written.{Written}
+use Rattle.refusals.specs.First.{Passed}
+use Rattle.refusals.specs.declared.refusal.Refusal.{Refusal}
+use Rattle.refusals.proofs.FirstLaws.{all_passed}
+use Rattle.sheet.specs.declared.Sheet.{Sheet}
 use Rattle.sheet.specs.Format.{version, stations, queues, target, queue_size, queue_start, sheet_end, padded, header_bytes, station_bytes, queue_bytes, bytes_of, sheet_of}
 use Rattle.sheet.specs.Read.{Passes, field_row, Reads}
-use Rattle.sheet.specs.Write.{SheetHanded, write_rows, Writes}
+use Rattle.sheet.specs.Write.{SheetHanded, write_rows, Judges, Writes}
 use Rattle.sheet.specs.Fields.{trimmed}
 use Rattle.sheet.proofs.FormatLaws.{ends, part_same}
 use Rattle.sheet.proofs.ReadLaws.{passes_read}
-use Rattle.sheet.proofs.WriteLaws.{free_to_write}
+use Rattle.sheet.proofs.WriteLaws.{writes}
 use Rattle.sheet.proofs.FieldLaws.{passed_same, trimmed_same}
+use Rattle.sheet.proofs.Unique.{write_unique}
 
 -- an entry of a column, cut to its count
 entry : (size n : ℕ) (f : ℕ → ℕ) (i : ℕ) → i < n → at (take n (padded size n f)) i ≡ f i
@@ -112,24 +114,20 @@ handed_back s ok =
       delays = cut 64 (queues s) _ ok.header.counts.queues;
     }
 
-free_back : (s : List ℕ) → Passes s → Passed (field_row (sheet_of s)) → (room : ℕ) → length s ≤ room → First (write_rows (trimmed (sheet_of s)) room) 0 0
+judged_back : (s : List ℕ) → Passes s → Passed (field_row (sheet_of s)) → (room : ℕ) → length s ≤ room
+    → Judges (write_rows (trimmed (sheet_of s)) room) (sheet_end (sheet_of s).version (sheet_of s).n (sheet_of s).m) (Ok (length s))
 unfolding sheet_of
-free_back s ok clear room h =
-    free_to_write (trimmed (sheet_of s)) room ok.known ok.header.counts (handed_back s ok)
+judged_back s ok clear room h =
+    writes (trimmed (sheet_of s)) room ok.known ok.header.counts (handed_back s ok)
     (passed_same (trimmed_same (sheet_of s)) clear)
-    (omega (arith, ok.laid.ends))
-
-end_back : (s : List ℕ) → Passes s → sheet_end (sheet_of s).version (sheet_of s).n (sheet_of s).m ≡ length s
-unfolding sheet_of
-end_back s ok = sym ok.laid.ends
+    (length s) ok.laid.ends h
 
 -- writing what was read gives the same bytes
-pub write_back : (s : List ℕ) → Bytes s → (r : Reading) → Reads s r → r.number ≡ 0
-    → (before after : List ℕ) (w : Written) → Writes (trimmed r.sheet) before after w → length s ≤ length before
-    → (w ≡ record { number = 0; place = 0; length = length s }) × (after ≡ s ++ drop (length s) before)
-write_back s bytes r q e before after w p h =
-    let ok = passes_read s q.verdict e in
-    let there = rw (q.accepted e) at p in
-    let same = unique there.judged.verdict (free_back s ok (all_passed q.verdict e 4 (omega arith)) (length before) h) in
-    let long : w.length ≡ length s = there.judged.accepted same.0 ∙ end_back s ok in
-    (λ i. record { number = same.0 i; place = same.1 i; length = long i }, rw (← bytes_back s bytes ok) (there.accepted same.0))
+pub write_back : (s : List ℕ) → Bytes s → (f : Sheet) → Reads s (Ok f)
+    → (before after : List ℕ) (w : Result ℕ Refusal) → Writes (trimmed f) before after w → length s ≤ length before
+    → (w ≡ Ok (length s)) × (after ≡ s ++ drop (length s) before)
+write_back s bytes f q before after w p h =
+    let ok = passes_read s q.verdict refl in
+    let once = write_unique (trimmed (sheet_of s)) before after _ w (Ok (length s)) (rw q.accepted at p)
+    (record { judged = judged_back s ok (all_passed q.verdict refl 4 (omega arith)) (length before) h; accepted = refl; refused = tt }) in
+    (once.0, rw (← bytes_back s bytes ok) once.1)

@@ -4,51 +4,52 @@ use mathlib.Core.Path.{◌≡◌, refl, ap, ◌∙◌}
 use mathlib.Core.List.{List, [], ◌∷◌, ◌++◌}
 use lib.ListN.{length, drop}
 use native.Mathlib.Omega.{arith}
+use Rattle.std.specs.Prelude.{Some, Result, Ok, Err}
 use Rattle.lists.specs.Put.{put}
 use Rattle.lists.specs.Joined.{joined}
-use Rattle.lists.specs.Lowest.{LowestFailing}
+use Rattle.lists.specs.Lowest.{FirstFailing}
 use Rattle.lists.proofs.Order.{le_stable, eq_stable}
 use Rattle.lists.proofs.PutLaws.{wrote, wrote_more, put_front}
 use Rattle.refusals.specs.Table.{counts}
 use Rattle.refusals.specs.Table.{version as wrong_version}
 use Rattle.refusals.specs.Table.{room as too_short}
 use Rattle.refusals.specs.First.{row, Passed, First}
-use Rattle.refusals.proofs.FirstLaws.{here, here_now, passed, none, all_passed}
+use Rattle.refusals.specs.declared.refusal.Refusal.{Refusal}
+use Rattle.refusals.specs.declared.refusal.Refusal.TheVariants.{Version, Counts, Field, Room}
+use Rattle.refusals.proofs.FirstLaws.{here_now, all_passed}
+use Rattle.refusals.proofs.RefusedLaws.{refused, given, passes}
 use Rattle.sheet.specs.declared.Sheet.{Sheet}
 use Rattle.sheet.specs.Limits.{CountsFit, SheetQueueFits}
 use Rattle.sheet.specs.Format.{queue_size, sheet_end, header_bytes, station_bytes, queue_bytes, bytes_of}
 use Rattle.sheet.specs.Read.{field_row}
-use Rattle.sheet.specs.Write.{SheetHanded, write_rows}
+use Rattle.sheet.specs.Write.{SheetHanded, write_rows, Judges}
 use Rattle.sheet.proofs.FormatLaws.{part_same, length_header, length_stations, length_queues, length_bytes}
+use Rattle.sheet.proofs.ReadLaws.{bad_refused}
 
 module _ (f : Sheet) (room : ℕ) where
-  pub refused_version : (f.version ≡ 1 → ⊥) → First (write_rows f room) 2 0
-  refused_version n = here_now wrong_version n
+  abbrev Judged : Result ℕ Refusal → Type 0
+  Judged = Judges (write_rows f room) (sheet_end f.version f.n f.m)
+
+  pub version_refused : (f.version ≡ 1 → ⊥) → Judged (Err Version)
+  version_refused n = refused Version (here_now wrong_version n)
 
   module _ (one : f.version ≡ 1) where
-    pub refused_counts : (CountsFit f.n f.m × SheetHanded f → ⊥) → First (write_rows f room) 3 0
-    refused_counts n = passed (λ p h. h one) (here_now counts n)
+    pub counts_refused : (CountsFit f.n f.m × SheetHanded f → ⊥) → Judged (Err Counts)
+    counts_refused n = passes (λ p h. h one) (refused Counts (here_now counts n))
 
     module _ (fits : CountsFit f.n f.m) (handed : SheetHanded f) where
-      pub refused_queue : {bad : ℕ} → LowestFailing (SheetQueueFits f) f.m bad → bad < f.m → First (write_rows f room) 5 bad
-      refused_queue lowest l =
-          passed (λ p h. h one)
-          (passed (λ p h. h (fits, handed))
-          (here {r = field_row f} (record { applies = (l, lowest.fails l); none_below = λ i b a. a.1 (lowest.below i b) })))
+      past_counts : {r : Result ℕ Refusal} → Judges (field_row f ∷ row too_short (room < sheet_end f.version f.n f.m) ∷ []) (sheet_end f.version f.n f.m) r → Judged r
+      past_counts a = passes (λ p h. h one) (passes (λ p h. h (fits, handed)) a)
+
+      pub queue_refused : (e : ℕ) → FirstFailing (SheetQueueFits f) f.m (Some e) → Judged (Err (Field e))
+      queue_refused e bad = past_counts (bad_refused f e bad)
 
       module _ (clear : Passed (field_row f)) where
-        to_room : {k p : ℕ} → First (row too_short (room < sheet_end f.version f.n f.m) ∷ []) k p → First (write_rows f room) k p
-        to_room r = passed (λ p h. h one) (passed (λ p h. h (fits, handed)) (passed clear r))
+        pub room_refused : room < sheet_end f.version f.n f.m → Judged (Err Room)
+        room_refused l = past_counts (passes clear (refused Room (here_now too_short l)))
 
-        pub refused_room : room < sheet_end f.version f.n f.m → First (write_rows f room) 11 0
-        refused_room l = to_room (here_now too_short l)
-
-        pub free_to_write : sheet_end f.version f.n f.m ≤ room → First (write_rows f room) 0 0
-        free_to_write l = to_room (passed (λ p h. omega arith) none)
-
--- no queue is bad
-pub clear : (f : Sheet) {bad : ℕ} → LowestFailing (SheetQueueFits f) f.m bad → f.m ≤ bad → Passed (field_row f)
-clear f lowest good e a = a.1 (lowest.below e (omega (arith, a.0)))
+        pub writes : (length : ℕ) → length ≡ sheet_end f.version f.n f.m → length ≤ room → Judged (Ok length)
+        writes length e l = past_counts (passes clear (passes (λ p h. omega arith) (given length e)))
 
 -- what holds of the fields where nothing is refused
 pub record Writable (f : Sheet) (room : ℕ) : Type 0 where

@@ -1,6 +1,7 @@
 -- A sheet's bytes: where each number stands, and the bytes that hold a sheet.
-use Rattle.std.specs.Prelude.{ℕ, zero, suc, ◌+◌, ◌*◌, List, ◌++◌, replicate}
-use Rattle.lists.specs.Front.{at, front}
+pub use Rattle.lists.specs.Front.{padded}
+use Rattle.std.specs.Prelude.{ℕ, zero, suc, ◌+◌, ◌*◌, List, ◌++◌}
+use Rattle.lists.specs.Front.{at}
 use Rattle.lists.specs.Joined.{joined}
 use Rattle.little.specs.Little.{u16le, u32le, two, four, column_at}
 use Rattle.sheet.specs.declared.Sheet.{Sheet}
@@ -39,10 +40,6 @@ queue_start n = 20 + 4 * n
 
 abbrev pub sheet_end : (version n m : ℕ) → ℕ
 sheet_end version n m = queue_start n + queue_size version * m
-
--- count numbers, and 0 up to size
-abbrev pub padded : (size count : ℕ) → (ℕ → ℕ) → List ℕ
-padded size count f = front count f (replicate size 0)
 
 -- a field of each station, and of each queue, from the byte on at which the first of them stands
 abbrev pub station_column : List ℕ → ℕ → List ℕ

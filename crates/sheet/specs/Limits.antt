@@ -32,6 +32,10 @@ pub record Columns (m : ℕ) (source sink produced consumed delay : List ℕ) : 
   pub consumeds : m ≤ length consumed
   pub delays : m ≤ length delay
 
+-- each column of a sheet has an entry for each of its queues
+abbrev pub SheetColumns : Sheet → Type 0
+SheetColumns f = Columns f.m f.source f.sink f.produced f.consumed f.delay
+
 -- queue e of a sheet
 abbrev pub SheetQueueFits : (f : Sheet) (e : ℕ) → Type 0
 SheetQueueFits f = ColumnsFit f.n f.source f.sink f.produced f.consumed f.delay

@@ -1,11 +1,11 @@
 -- What reading answers: refusals 1 to 5, or the sheet.
-use Rattle.std.specs.Prelude.{ℕ, ◌<◌, ◌≡◌, refl, List, [], ◌∷◌, ◌++◌, length, replicate}
+use Rattle.std.specs.Prelude.{ℕ, ◌<◌, ◌≡◌, List, [], ◌∷◌, ◌++◌, length, replicate, Result}
 use Rattle.refusals.specs.Table.{short, counts, layout, field}
 use Rattle.refusals.specs.Table.{version as wrong_version}
 use Rattle.refusals.specs.First.{Row, row}
-use Rattle.refusals.specs.Answer.{Kind, Answers}
+use Rattle.refusals.specs.Refused.{Answered}
+use Rattle.refusals.specs.declared.refusal.Refusal.{Refusal}
 use Rattle.sheet.specs.declared.Sheet.{Sheet}
-use Rattle.sheet.specs.declared.Reading.{Reading}
 use Rattle.sheet.specs.Limits.{CountsFit, SheetQueueFits}
 use Rattle.sheet.specs.Format.{version, stations, queues, zero_field, station_offset, queue_offset, queue_start, sheet_end, sheet_of}
 
@@ -56,16 +56,6 @@ blank = record {
   delay = replicate 64 0;
 }
 
--- a refusal's number and place, and a blank sheet
-abbrev pub read_kind : Kind Reading
-read_kind = record {
-  number = λ r. r.number;
-  place = λ r. r.place;
-  refusal = λ number place. record { number = number; place = place; sheet = blank };
-  tells_number = λ number place. refl;
-  tells_place = λ number place. refl;
-}
-
--- the first refusal that applies and nothing else, or the sheet
-abbrev pub Reads : (s : List ℕ) → Reading → Type 0
-Reads s = Answers read_kind (read_rows s) (λ r. r.sheet ≡ sheet_of s)
+-- the first refusal that applies, or the sheet
+abbrev pub Reads : (s : List ℕ) → Result Sheet Refusal → Type 0
+Reads s = Answered (read_rows s) (λ f. f ≡ sheet_of s)

@@ -1,12 +1,13 @@
 -- What writing answers: refusals 2, 3, 5 and 11, or the sheet's bytes.
-use Rattle.std.specs.Prelude.{ℕ, ◌<◌, ◌≡◌, refl, List, [], ◌∷◌, ◌++◌, length, drop}
+use Rattle.std.specs.Prelude.{ℕ, ◌<◌, ◌≡◌, List, [], ◌∷◌, ◌++◌, length, drop, Result, OnOk, OnErr}
 use Rattle.refusals.specs.Table.{counts}
 use Rattle.refusals.specs.Table.{version as wrong_version}
 use Rattle.refusals.specs.Table.{room as too_short}
 use Rattle.refusals.specs.First.{Row, row}
-use Rattle.refusals.specs.Answer.{Kind, Answers}
+use Rattle.refusals.specs.Refused.{Answered}
+use Rattle.refusals.specs.declared.refusal.Refusal.{Refusal}
+use Rattle.sheet.specs.declared.Fields.{Fields}
 use Rattle.sheet.specs.declared.Sheet.{Sheet}
-use Rattle.sheet.specs.declared.Written.{Written}
 use Rattle.sheet.specs.Limits.{CountsFit}
 use Rattle.sheet.specs.Format.{sheet_end, bytes_of}
 use Rattle.sheet.specs.Read.{field_row}
@@ -40,6 +41,10 @@ sheet_from version n m target tag time source sink produced consumed delay = rec
   delay = delay;
 }
 
+abbrev pub handed_sheet : Fields → Sheet
+handed_sheet f =
+    sheet_from f.version f.n f.m f.target f.tag.now f.time.now f.source.now f.sink.now f.produced.now f.consumed.now f.delay.now
+
 -- refusals 2, 3, 5 and 11, for a buffer of room bytes
 abbrev pub write_rows : (f : Sheet) (room : ℕ) → List Row
 write_rows f room =
@@ -49,22 +54,12 @@ write_rows f room =
     ∷ row too_short (room < sheet_end f.version f.n f.m)
     ∷ []
 
--- a refusal's number and place, and no length
-abbrev pub written_kind : Kind Written
-written_kind = record {
-  number = λ r. r.number;
-  place = λ r. r.place;
-  refusal = λ number place. record { number = number; place = place; length = 0 };
-  tells_number = λ number place. refl;
-  tells_place = λ number place. refl;
-}
-
--- the first of the rows that applies and nothing else, or the number of bytes needed
-abbrev pub Judges : (rows : List Row) (needed : ℕ) → Written → Type 0
-Judges rows needed = Answers written_kind rows (λ r. r.length ≡ needed)
+-- the first of the rows that applies, or the number of bytes needed
+abbrev pub Judges : (rows : List Row) (needed : ℕ) → Result ℕ Refusal → Type 0
+Judges rows needed = Answered rows (λ length. length ≡ needed)
 
 -- a lent buffer afterwards: the sheet's bytes at its front and its rest as it was, or on a refusal all of it as it was
-pub record Writes (f : Sheet) (before after : List ℕ) (r : Written) : Type 0 where
+pub record Writes (f : Sheet) (before after : List ℕ) (r : Result ℕ Refusal) : Type 0 where
   pub judged : Judges (write_rows f (length before)) (sheet_end f.version f.n f.m) r
-  pub accepted : r.number ≡ 0 → after ≡ bytes_of f ++ drop (length (bytes_of f)) before
-  pub refused : (r.number ≡ 0 → ⊥) → after ≡ before
+  pub accepted : OnOk r (after ≡ bytes_of f ++ drop (length (bytes_of f)) before)
+  pub refused : OnErr r (after ≡ before)

@@ -8,7 +8,7 @@ mod writer;
 pub use reader::{blank_sheet, read};
 pub use writer::write;
 
-// A sheet's numbers. Entries past n stations and m queues are 0.
+// A sheet's numbers. Entries past n stations and m queues are 0. Columns of a fixed length with n and m beside them, since C reads it so and there is no heap.
 #[repr(C)]
 #[derive(Clone, Copy)]
 pub struct Sheet {
@@ -25,20 +25,18 @@ pub struct Sheet {
     pub delay: [u16; 64],
 }
 
-// A refusal's number and place with a blank sheet, or 0, 0 and the sheet.
-#[repr(C)]
-#[derive(Drop)]
-pub struct Reading {
-    pub number: u32,
-    pub place: u32,
-    pub sheet: Sheet,
-}
-
-// A refusal's number and place with length 0, or 0, 0 and the sheet's length in bytes.
-#[repr(C)]
-#[derive(Drop)]
-pub struct Written {
-    pub number: u32,
-    pub place: u32,
-    pub length: usize,
+// A sheet's numbers as they are handed to the writer: columns of n stations and m queues.
+#[derive(Clone, Copy)]
+pub struct Fields<'a> {
+    pub version: u16,
+    pub n: usize,
+    pub m: usize,
+    pub target: u32,
+    pub tag: &'a [u16],
+    pub time: &'a [u16],
+    pub source: &'a [u16],
+    pub sink: &'a [u16],
+    pub produced: &'a [u16],
+    pub consumed: &'a [u16],
+    pub delay: &'a [u16],
 }

@@ -1,81 +1,45 @@
 // The limits of a sheet's numbers, and the size of its records.
-ghost use Rattle.std.specs.Prelude.{◌≡◌};
-ghost use Rattle.lists.specs.Lowest.{LowestFailing};
+ghost use Rattle.std.specs.Prelude.{◌≡◌, ◌≢◌, ◌<◌, MatchResult};
+ghost use Rattle.lists.specs.Lowest.{FirstFailing};
 ghost use Rattle.lists.specs.Test.{Tells};
-ghost use Rattle.sheet.specs.Limits.{CountsFit, QueueFits, ColumnsFit, Columns};
+ghost use Rattle.sheet.specs.Limits.{CountsFit, SheetQueueFits, SheetColumns};
 ghost use Rattle.sheet.specs.Format.{queue_size};
+ghost use Rattle.sheet.specs.Write.{handed_sheet};
 
-// The bytes of a queue record, by version; 0 where there is no such version.
-pub(crate) fn queue_size(version: u16) -> usize
-    ensures { result ≡ queue_size version }
+use crate::Fields;
+use refusals::Refusal;
+
+// The bytes of a queue record, or refusal 2 where there is no such version.
+pub(crate) fn queue_size(version: u16) -> Result<usize, Refusal>
+    ensures { MatchResult result (λ size. (version ≡ 1) × (size ≡ queue_size version)) (λ e. (e ≡ Refusal.Version) × (version ≢ 1)) }
 {
     match version {
-        1 => 10,
-        _ => 0,
+        1 => Ok(10),
+        _ => Err(Refusal::Version),
     }
 }
 
 pub(crate) fn counts_fit(n: usize, m: usize) -> bool
     ensures { Tells result (CountsFit n m) }
 {
-    if n < 1 {
-        return false;
-    }
-    if 32 < n {
-        return false;
-    }
-    if 64 < m {
-        return false;
-    }
-    true
+    (1..=32).contains(&n) && m <= 64
 }
 
-fn queue_fits(n: usize, source: u16, sink: u16, produced: u16, consumed: u16, delay: u16) -> bool
-    ensures { Tells result (QueueFits n source sink produced consumed delay) }
+fn queue_fits(fields: &Fields, e: usize) -> bool
+    requires { SheetColumns (handed_sheet fields.now) × (e < fields.now.m) }
+    ensures { Tells result (SheetQueueFits (handed_sheet fields.now) e) }
 {
-    if n <= source as usize {
-        return false;
-    }
-    if n <= sink as usize {
-        return false;
-    }
-    if produced < 1 {
-        return false;
-    }
-    if 64 < produced {
-        return false;
-    }
-    if consumed < 1 {
-        return false;
-    }
-    if 64 < consumed {
-        return false;
-    }
-    if 4095 < delay {
-        return false;
-    }
-    true
+    usize::from(fields.source[e]) < fields.n
+        && usize::from(fields.sink[e]) < fields.n
+        && (1..=64).contains(&fields.produced[e])
+        && (1..=64).contains(&fields.consumed[e])
+        && fields.delay[e] <= 4095
 }
 
-// The lowest of m queues with a field outside its limits, or m.
-pub(crate) fn first_bad(
-    n: usize,
-    m: usize,
-    source: &[u16],
-    sink: &[u16],
-    produced: &[u16],
-    consumed: &[u16],
-    delay: &[u16],
-) -> usize
-    requires { Columns m source.now sink.now produced.now consumed.now delay.now }
-    ensures { LowestFailing (ColumnsFit n source.now sink.now produced.now consumed.now delay.now) m result }
+// The lowest queue with a field outside its limits.
+pub(crate) fn first_bad(fields: &Fields) -> Option<usize>
+    requires { SheetColumns (handed_sheet fields.now) }
+    ensures { FirstFailing (SheetQueueFits (handed_sheet fields.now)) fields.now.m result }
 {
-    let mut e = 0;
-    while e < m {
-        if !queue_fits(n, source[e], sink[e], produced[e], consumed[e], delay[e]) {
-            return e;
-        }
-        e += 1;
-    }
-    e
+    (0..fields.m).find(|&e| !queue_fits(fields, e))
 }

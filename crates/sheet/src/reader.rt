@@ -1,30 +1,24 @@
 // Reading a sheet.
 ghost use Rattle.std.specs.Prelude.{◌≡◌, ◌≤◌, length};
-ghost use Rattle.lists.specs.Lowest.{LowestFailing};
+ghost use Rattle.lists.specs.Lowest.{FirstFailing};
 ghost use Rattle.lists.specs.Test.{Tells};
-ghost use Rattle.little.specs.Little.{column_at, Apart};
-ghost use Rattle.refusals.specs.First.{First};
+ghost use Rattle.refusals.specs.Refused.{Answered};
 ghost use Rattle.sheet.specs.Limits.{SheetQueueFits};
-ghost use Rattle.sheet.specs.Format.{version, queue_size, padded, sheet_of};
+ghost use Rattle.sheet.specs.Format.{version, queue_size, sheet_of};
 ghost use Rattle.sheet.specs.Read.{HeaderFits, Laid, header_rows, Passes, Reads, blank};
 
 use crate::limits::{counts_fit, first_bad, queue_size};
-use crate::{Reading, Sheet};
+use crate::{Fields, Sheet};
+use refusals::Refusal;
 
 // n, m and the zero field are within their limits.
 fn header_fits(s: &[u8]) -> bool
     requires { 20 ≤ length s.now }
     ensures { Tells result (HeaderFits s.now) }
 {
-    let n = little::u16_at(s, 2) as usize;
-    let m = little::u16_at(s, 4) as usize;
-    if !counts_fit(n, m) {
-        return false;
-    }
-    if little::u16_at(s, 6) != 0 {
-        return false;
-    }
-    true
+    let n = usize::from(little::u16_at(s, 2));
+    let m = usize::from(little::u16_at(s, 4));
+    counts_fit(n, m) && little::u16_at(s, 6) == 0
 }
 
 // The offsets and the length are right.
@@ -32,107 +26,73 @@ fn laid(s: &[u8], size: usize) -> bool
     requires { (20 ≤ length s.now) × ((size ≡ queue_size (version s.now)) × (size ≤ 10)) }
     ensures { Tells result (Laid s.now) }
 {
-    let n = little::u16_at(s, 2) as usize;
-    let m = little::u16_at(s, 4) as usize;
-    if little::u32_at(s, 8) != 20 {
-        return false;
-    }
-    if little::u32_at(s, 12) as usize != 20 + 4 * n {
-        return false;
-    }
-    if s.len() != 20 + 4 * n + size * m {
-        return false;
-    }
-    true
+    let n = usize::from(little::u16_at(s, 2));
+    let m = usize::from(little::u16_at(s, 4));
+    little::u32_at(s, 8) == 20
+        && little::u32_at(s, 12) as usize == 20 + 4 * n
+        && s.len() == 20 + 4 * n + size * m
 }
 
-// The first of refusals 1 to 4 that applies, or 0.
-fn header_fault(s: &[u8]) -> u32
-    ensures { First (header_rows s.now) result 0 }
+// The first of refusals 1 to 4 that applies, or the size of a queue record.
+fn header(s: &[u8]) -> Result<usize, Refusal>
+    ensures { Answered (header_rows s.now) (λ size. (size ≡ queue_size (version s.now)) × Passes s.now) result }
 {
     if s.len() < 20 {
-        return 1;
+        return Err(Refusal::Short);
     }
-    let size = queue_size(little::u16_at(s, 0));
-    if size == 0 {
-        return 2;
-    }
+    let size = queue_size(little::u16_at(s, 0))?;
     if !header_fits(s) {
-        return 3;
+        return Err(Refusal::Counts);
     }
     if !laid(s, size) {
-        return 4;
+        return Err(Refusal::Layout);
     }
-    0
+    Ok(size)
 }
 
-// The numbers that stand 4 bytes apart from a byte on, one for each station.
-fn station_column(s: &[u8], from: usize, n: usize) -> [u16; 32]
-    requires { Apart from 4 n (length s.now) 32 }
-    ensures { result ≡ padded 32 n (column_at s.now from 4) }
-{
-    let mut out = [0u16; 32];
-    little::column(s, from, 4, n, &mut out);
-    out
-}
-
-// The numbers that stand size bytes apart from a byte on, one for each queue.
-fn queue_column(s: &[u8], from: usize, size: usize, m: usize) -> [u16; 64]
-    requires { Apart from size m (length s.now) 64 }
-    ensures { result ≡ padded 64 m (column_at s.now from size) }
-{
-    let mut out = [0u16; 64];
-    little::column(s, from, size, m, &mut out);
-    out
-}
-
-fn fields(s: &[u8]) -> Sheet
-    requires { Passes s.now }
+fn sheet_of(s: &[u8], size: usize) -> Sheet
+    requires { (size ≡ queue_size (version s.now)) × Passes s.now }
     ensures { result ≡ sheet_of s.now }
 {
-    let version = little::u16_at(s, 0);
-    let n = little::u16_at(s, 2) as usize;
-    let m = little::u16_at(s, 4) as usize;
-    let size = queue_size(version);
+    let n = usize::from(little::u16_at(s, 2));
+    let m = usize::from(little::u16_at(s, 4));
     let base = 20 + 4 * n;
-    let tag = station_column(s, 20, n);
-    let time = station_column(s, 22, n);
-    let source = queue_column(s, base, size, m);
-    let sink = queue_column(s, base + 2, size, m);
-    let produced = queue_column(s, base + 4, size, m);
-    let consumed = queue_column(s, base + 6, size, m);
-    let delay = queue_column(s, base + 8, size, m);
     Sheet {
-        version,
+        version: little::u16_at(s, 0),
         n,
         m,
         target: little::u32_at(s, 16),
-        tag,
-        time,
-        source,
-        sink,
-        produced,
-        consumed,
-        delay,
+        tag: little::padded_column(s, 20, 4, n),
+        time: little::padded_column(s, 22, 4, n),
+        source: little::padded_column(s, base, size, m),
+        sink: little::padded_column(s, base + 2, size, m),
+        produced: little::padded_column(s, base + 4, size, m),
+        consumed: little::padded_column(s, base + 6, size, m),
+        delay: little::padded_column(s, base + 8, size, m),
     }
 }
 
-// The lowest queue of a sheet with a field outside its limits, or m.
-fn bad_queue(sheet: Sheet) -> usize
-    requires { sheet.m ≤ 64 }
-    ensures { LowestFailing (SheetQueueFits sheet) sheet.m result }
+// The lowest queue of a sheet with a field outside its limits.
+fn bad_queue(sheet: &Sheet) -> Option<usize>
+    requires { sheet.now.m ≤ 64 }
+    ensures { FirstFailing (SheetQueueFits sheet.now) sheet.now.m result }
 {
-    let source = sheet.source;
-    let sink = sheet.sink;
-    let produced = sheet.produced;
-    let consumed = sheet.consumed;
-    let delay = sheet.delay;
-    first_bad(
-        sheet.n, sheet.m, &source, &sink, &produced, &consumed, &delay,
-    )
+    first_bad(&Fields {
+        version: sheet.version,
+        n: sheet.n,
+        m: sheet.m,
+        target: sheet.target,
+        tag: &sheet.tag,
+        time: &sheet.time,
+        source: &sheet.source,
+        sink: &sheet.sink,
+        produced: &sheet.produced,
+        consumed: &sheet.consumed,
+        delay: &sheet.delay,
+    })
 }
 
-// A sheet of nothing but 0, as a refusal hands it back.
+// A sheet of nothing but 0, as a refusal in C hands it back.
 pub fn blank_sheet() -> Sheet
     ensures { result ≡ blank }
 {
@@ -151,32 +111,14 @@ pub fn blank_sheet() -> Sheet
     }
 }
 
-fn refused(number: u32, place: u32) -> Reading
-    ensures { result ≡ (record { number = number; place = place; sheet = blank }) }
-{
-    Reading {
-        number,
-        place,
-        sheet: blank_sheet(),
-    }
-}
-
 // Bytes of any length: the first of refusals 1 to 5 that applies, or the sheet.
-pub fn read(s: &[u8]) -> Reading
+pub fn read(s: &[u8]) -> Result<Sheet, Refusal>
     ensures { Reads s.now result }
 {
-    let number = header_fault(s);
-    if number != 0 {
-        return refused(number, 0);
-    }
-    let sheet = fields(s);
-    let bad = bad_queue(sheet);
-    if bad < sheet.m {
-        return refused(5, bad as u32);
-    }
-    Reading {
-        number: 0,
-        place: 0,
-        sheet,
+    let size = header(s)?;
+    let sheet = sheet_of(s, size);
+    match bad_queue(&sheet) {
+        Some(e) => Err(Refusal::Field(e as u32)),
+        None => Ok(sheet),
     }
 }

@@ -2,10 +2,8 @@
 ghost use Rattle.lists.specs.Test.{Tells};
 ghost use Rattle.dataflow.specs.Refusals.{InHandRange};
 
-use crate::parts::{down, up};
-
 pub fn in_hand_range(x: i32) -> bool
     ensures { Tells result (InHandRange x) }
 {
-    up(x) + down(x) <= 65535
+    x.unsigned_abs() <= 65535
 }

@@ -1,35 +1,31 @@
 // Bytes from an input.
-ghost use Rattle.std.specs.Prelude.{◌≡◌, ◌≤◌, length, take};
+ghost use Rattle.std.specs.Prelude.{◌≡◌, ◌≤◌, ◌<◌, length, take, IfOk};
+ghost use Rattle.std.specs.Io.KnownBytes.{Consumes, IsAtEnd};
+ghost use Rattle.streams.specs.Filled.{count_of};
 
 use std::io::Read;
 
-// How many bytes stand at the start of a list now, and whether a read failed behind them. Where none failed and the list isn't full, the input has ended.
-#[derive(Drop)]
-pub struct Taken {
+// A read failed behind so many bytes, which stand at the front.
+#[derive(Clone, Copy, Debug, PartialEq, Eq)]
+pub struct Unread {
     pub count: usize,
-    pub failed: bool,
 }
 
-// Reads until the list is full, the input ends or a read fails.
-pub fn fill(input: &mut impl Read, space: &mut [u8]) -> Taken
-    ensures within { result.count ≤ length space.new }
-    ensures front { result.count ≡ length (take result.count space.new) }
+// Reads until the list is full, the input ends or a read fails; gives how many bytes stand at the front of the list now. Where that isn't all of it, the input has ended.
+// A loop, since `read_exact` doesn't tell how many bytes there were.
+pub fn fill<R: Read>(input: &mut R, space: &mut [u8]) -> Result<usize, Unread>
+    ensures within { count_of result ≤ length space.new }
+    ensures front { count_of result ≡ length (take (count_of result) space.new) }
+    ensures bytes { Consumes (R.remaining input.old) (R.remaining input.new) (take (count_of result) space.new) }
+    ensures end { IfOk result (λ n. n < length space.new → IsAtEnd (R.remaining input.new)) }
 {
-    let mut done = 0;
-    while done < space.len() {
-        match input.read(&mut space[done..]) {
+    let mut count = 0;
+    while count < space.len() {
+        match input.read(&mut space[count..]) {
             Ok(0) => break,
-            Ok(more) => done += more,
-            Err(_) => {
-                return Taken {
-                    count: done,
-                    failed: true,
-                };
-            }
+            Ok(more) => count += more,
+            Err(_) => return Err(Unread { count }),
         }
     }
-    Taken {
-        count: done,
-        failed: false,
-    }
+    Ok(count)
 }

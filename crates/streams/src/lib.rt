@@ -4,5 +4,5 @@
 mod ending;
 mod input;
 
-pub use ending::{cut, done, refused, unread};
-pub use input::{Taken, fill};
+pub use ending::{Failure, done, failed, refused};
+pub use input::{Unread, fill};

@@ -1,7 +1,9 @@
 -- What the origin of a token is told as: refusals 1 to 8 with 16, and 15, or the token.
-use Rattle.std.specs.Prelude.{ℕ, ◌≡◌, refl, List, [], ◌∷◌, ◌++◌}
+use Rattle.std.specs.Prelude.{ℕ, ◌≤◌, ◌<◌, ◌≡◌, List, [], ◌∷◌, ◌++◌, Result}
+use Rattle.lists.specs.Front.{at}
 use Rattle.refusals.specs.First.{Row}
-use Rattle.refusals.specs.Answer.{Kind, Answers}
+use Rattle.refusals.specs.Refused.{Answered}
+use Rattle.refusals.specs.declared.refusal.Refusal.{Refusal}
 use Rattle.dataflow.specs.Runs.{Token, initial, made}
 use Rattle.dataflow.specs.Promise.{OriginPromise}
 use Rattle.dataflow.specs.Refusals.{HasNumber}
@@ -10,21 +12,7 @@ use Rattle.sheet.specs.declared.Sheet.{Sheet}
 use Rattle.sheet.specs.Format.{sheet_of}
 use Rattle.checks.specs.Check.{net_for, delays_for, check_rows}
 use Rattle.tokens.specs.declared.Origin.{Origin}
-use Rattle.tokens.specs.declared.Origin.TheVariants.{Initial, Made, Refused}
-
--- the refusal of each case; a token is none
-abbrev pub number_of : Origin → ℕ
-number_of (Initial place) = 0
-number_of (Made firing place) = 0
-number_of (Refused number place) = number
-
-abbrev pub place_of : Origin → ℕ
-place_of (Initial place) = 0
-place_of (Made firing place) = 0
-place_of (Refused number place) = place
-
-abbrev pub origin_kind : Kind Origin
-origin_kind = record { number = number_of; place = place_of; refusal = Refused; tells_number = λ k p. refl; tells_place = λ k p. refl }
+use Rattle.tokens.specs.declared.Origin.TheVariants.{Initial, Made}
 
 -- the case that tells a token
 abbrev pub told_as : Token → Origin
@@ -35,6 +23,14 @@ told_as (made firing place) = Made firing place
 abbrev pub token_row : Sheet → (e g k : ℕ) → Row
 token_row f e g k = nets.token_row (net_for f []) e g k
 
+-- there are such a queue, firing and token, by the sheet's columns
+pub record Asks (f : Sheet) (e g k : ℕ) : Type 0 where
+  pub queue : e < f.m
+  pub firing_low : 1 ≤ g
+  pub firing_high : g ≤ 1000000
+  pub token_low : 1 ≤ k
+  pub token_high : k ≤ at f.consumed e
+
 -- r tells token k of firing g of the sink of queue e of the sheet f
 pub record Told (f : Sheet) (e g k : ℕ) (r : Origin) : Type 0 where
   pub queue : (net_for f []).Queue
@@ -44,5 +40,5 @@ pub record Told (f : Sheet) (e g k : ℕ) (r : Origin) : Type 0 where
   pub told : r ≡ told_as token
 
 -- the origin of token k of firing g of the sink of queue e, for a sheet's bytes
-abbrev pub TellsToken : (s : List ℕ) (e g k : ℕ) → Origin → Type 0
-TellsToken s e g k = Answers origin_kind (check_rows s ++ token_row (sheet_of s) e g k ∷ []) (Told (sheet_of s) e g k)
+abbrev pub TellsToken : (s : List ℕ) (e g k : ℕ) → Result Origin Refusal → Type 0
+TellsToken s e g k = Answered (check_rows s ++ token_row (sheet_of s) e g k ∷ []) (Told (sheet_of s) e g k)

@@ -1,13 +1,14 @@
 // Where a token comes from.
 ghost use Rattle.std.specs.Prelude.{◌≡◌, [], ◌∷◌, ◌≤◌, ◌<◌};
-ghost use Rattle.chain.specs.Chain.{Chain};
-ghost use Rattle.refusals.specs.Answer.{Answers};
+ghost use Rattle.lists.specs.Test.{Tells};
+ghost use Rattle.refusals.specs.Refused.{Answered};
 ghost use Rattle.dataflow.specs.Origin.{place_taken, token_at};
-ghost use Rattle.tokens.specs.Told.{origin_kind, told_as, token_row, Told, TellsToken};
+ghost use Rattle.checks.specs.Check.{sheet_in};
+ghost use Rattle.tokens.specs.Told.{Asks, told_as, token_row, Told, TellsToken};
 
 use crate::Origin;
-use chain::wide32;
-use sheet::Sheet;
+use checks::Checked;
+use refusals::Refusal;
 
 // Where firing g of the sink finds its token k.
 fn place_taken(consumed: u32, firing: u32, token: u32) -> u32
@@ -29,39 +30,37 @@ fn at_place(delay: u32, produced: u32, place: u32) -> Origin
     Origin::Made(made / produced + 1, made % produced + 1)
 }
 
-// 15, or the token.
-fn found(sheet: Sheet, queue: usize, firing: u32, token: u32) -> Origin
-    requires { Chain sheet.n sheet.m sheet.source sheet.sink sheet.produced sheet.consumed }
-    ensures { Answers origin_kind (token_row sheet queue firing token ∷ []) (Told sheet queue firing token) result }
+// Whether there are such a queue, firing and token.
+fn there(checked: &Checked, queue: usize, firing: u32, token: u32) -> bool
+    ensures { Tells result (Asks (sheet_in checked.now) queue firing token) }
 {
-    if queue >= sheet.m {
-        return Origin::Refused(15, 0);
+    let chain = &checked.round.chain;
+    queue < chain.m
+        && 1 <= firing
+        && firing <= 1000000
+        && 1 <= token
+        && token <= u32::from(chain.consumed[queue])
+}
+
+// 15, or the token.
+fn found(checked: &Checked, queue: usize, firing: u32, token: u32) -> Result<Origin, Refusal>
+    ensures { Answered (token_row (sheet_in checked.now) queue firing token ∷ []) (Told (sheet_in checked.now) queue firing token) result }
+{
+    if !there(checked, queue, firing, token) {
+        return Err(Refusal::Token);
     }
-    if firing == 0 {
-        return Origin::Refused(15, 0);
-    }
-    if firing > 1000000 {
-        return Origin::Refused(15, 0);
-    }
-    let consumed = wide32(sheet.consumed[queue]);
-    if token == 0 {
-        return Origin::Refused(15, 0);
-    }
-    if token > consumed {
-        return Origin::Refused(15, 0);
-    }
-    let delay = wide32(sheet.delay[queue]);
-    let produced = wide32(sheet.produced[queue]);
-    at_place(delay, produced, place_taken(consumed, firing, token))
+    let chain = &checked.round.chain;
+    let place = place_taken(u32::from(chain.consumed[queue]), firing, token);
+    Ok(at_place(
+        checked.delay[queue],
+        u32::from(chain.produced[queue]),
+        place,
+    ))
 }
 
 // The origin of a token of a sink's firing on a queue, for bytes of any length: the first of refusals 1 to 8 with 16, and 15 that applies, or the token.
-pub fn origin_of(s: &[u8], queue: usize, firing: u32, token: u32) -> Origin
+pub fn origin_of(s: &[u8], queue: usize, firing: u32, token: u32) -> Result<Origin, Refusal>
     ensures { TellsToken s.now queue firing token result }
 {
-    let checked = checks::check(s);
-    if checked.number != 0 {
-        return Origin::Refused(checked.number, checked.place);
-    }
-    found(checked.sheet, queue, firing, token)
+    found(&checks::check(s)?, queue, firing, token)
 }

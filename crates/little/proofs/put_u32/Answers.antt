@@ -1,12 +1,10 @@
-use mathlib.Core.Path.{refl}
-use Rattle.lists.proofs.PutLaws.{wrote, wrote_more}
-use Rattle.little.specs.Little.{four}
-use Rattle.little.proofs.LittleLaws.{length_two}
+use mathlib.Core.Path.{◌∙◌}
+use borrow.Author.Rules.{rules}
+use Rattle.lists.proofs.PutLaws.{put_lent}
+use Rattle.little.proofs.LittleLaws.{length_four, four_bytes}
 use Rattle.little.proofs.put_u32.Goals as goal
 
 pub returns : goal.returns
-unfolding four
 returns c =
-    (wrote_more _ (wrote c.put_u16.ensures (length_two _)) refl
-    c.put_u16-2.ensures (length_two _)
-    ).is
+    put_lent _ _ 4 _ _ (c.copy_from_slice.ensures.after ∙ c.to_le_bytes.ensures ∙ four_bytes c.args.x (search rules)) (length_four _)
+    c.requires

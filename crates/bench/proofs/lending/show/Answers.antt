@@ -1,5 +1,5 @@
-use Rattle.planner.proofs.FitLaws.{fits}
+use Rattle.planner.proofs.FitLaws.{answer_fits}
 use Rattle.bench.proofs.lending.show.Goals as goal
 
-pub plan-lines-requires : goal.plan-lines-requires
-plan-lines-requires g c = fits _ _ _ _ _ _ _ _ c.plan-planned.ensures
+pub plan-requires : goal.plan-requires
+plan-requires g c = answer_fits _ c.plan-planned.ensures

@@ -1,5 +1,5 @@
-use Rattle.planner.proofs.FitLaws.{fits}
+use Rattle.planner.proofs.FitLaws.{answer_fits}
 use Rattle.bench.proofs.planning.answer.Goals as goal
 
 pub plan-requires : goal.plan-requires
-plan-requires g c = fits _ _ _ _ _ _ _ _ c.plan_lent-planned.ensures.plans
+plan-requires g c = answer_fits _ c.plan_lent-planned.ensures.plans

@@ -2,4 +2,4 @@ use Rattle.chain.proofs.CeilingLaws.{ceiling_is}
 use Rattle.chain.proofs.dividing.rounded_up.Goals as goal
 
 pub returns : goal.returns
-returns c = ceiling_is c.args.k c.args.rate c.requires.1.0
+returns c = rw c.div_ceil.ensures (ceiling_is c.args.k c.args.rate c.requires)

@@ -1,17 +1,13 @@
-use Rattle.checks.proofs.SheetLaws.{read_chain, read_delays}
-use Rattle.refusals.proofs.AnswerLaws.{refuses}
-use Rattle.checks.specs.Check.{checked_kind}
+use Rattle.std.proofs.lemmas.Result.{err_from_is_err_and}
+use Rattle.checks.proofs.SheetLaws.{read_fits}
 use Rattle.checks.proofs.CheckLaws.{read_refused, read_judged}
 use Rattle.checks.proofs.judge.check.Goals as goal
 
-pub returns-then-reading-ne0 : goal.returns-then-reading-ne0
-returns-then-reading-ne0 c =
-    refuses checked_kind _ _ c.if-reading-ne0.true (read_refused _ c.read-reading.ensures c.if-reading-ne0.true) c.refused.ensures
+pub returns-in_err-read : goal.returns-in_err-read
+returns-in_err-read c = let p = err_from_is_err_and c.from_residual.result c.from_residual.ensures.1 in rw (p.1, p.2) (read_refused c.in_err-read.ensures)
 
 pub chained-requires : goal.chained-requires
-chained-requires c =
-    (read_chain _ _ c.read-reading.ensures c.if-reading-ne0.false, read_delays _ _ c.read-reading.ensures c.if-reading-ne0.false)
+chained-requires c = read_fits c.in_ok-read.ensures
 
 pub returns : goal.returns
-returns c =
-    read_judged _ c.read-reading.ensures c.if-reading-ne0.false c.chained.ensures
+returns c = read_judged c.in_ok-read.ensures c.chained.ensures

@@ -1,22 +1,13 @@
-use native.Mathlib.Omega.{arith}
-use borrow.Author.Rules.{rules}
-use borrow.Author.Count.{below_none, below_more}
+use Prim.Native.Nat.{ℕ}
+use Rattle.std.proofs.Common.{rules, tests, arith}
+use Rattle.std.proofs.lemmas.Iterator.{first_from_Range}
+use Rattle.lists.specs.Front.{at}
+use Rattle.counts.specs.Raising.{Balanced}
+use Rattle.counts.proofs.FindLaws.{first_failing}
 use Rattle.counts.proofs.raising.lowest_unmet.Goals as goal
 
-pub loop-e-init : goal.loop-e-init
-loop-e-init c = (below_none _, search rules)
-
-pub moved-requires : goal.moved-requires
-moved-requires c = ((c.requires.0 _ c.loop-e-test.true).leaves, c.requires.1)
-
-pub moved-requires-in-loop-e : goal.moved-requires-in-loop-e
-moved-requires-in-loop-e c = ((c.requires.0 _ c.loop-e-test.true).enters, c.requires.1)
-
-pub returns-then-moved : goal.returns-then-moved
-returns-then-moved c = record { within = search rules; below = c.loop-e.invariant.0; fails = λ l k. c.if-moved.true (omega (arith, c.moved.ensures.0, c.moved-in-loop-e.ensures.0)) }
-
-pub loop-e-preserved : goal.loop-e-preserved
-loop-e-preserved c = (below_more _ _ c.loop-e.invariant.0 (omega (arith, c.if-moved.false, c.moved.ensures.0, c.moved-in-loop-e.ensures.0)), search rules)
-
 pub returns : goal.returns
-returns c = record { within = search rules; below = c.loop-e.invariant.0; fails = λ l. absurd (omega arith) }
+returns c =
+    let t = c.args.chain.now in
+    let P : ℕ → Type 0 = Balanced t.source t.sink t.produced t.consumed (at c.args.q.now) in
+    first_failing c.find.result (first_from_Range _ _ _ _ (λ e. P e → ⊥) P c.find.ensures.ran (λ x q k. grind (arith, tests)) (λ x q k. (search rules, grind (arith, tests))))

@@ -1,9 +1,6 @@
-use Prim.Native.Nat.{◌-◌, ◌≤◌}
-use Rattle.firing.specs.Late.{EndsAfter}
+use Rattle.std.proofs.Common.{◌≡◌, ◌+◌, nat_lt, take}
+use Rattle.std.specs.List.{count_by}
 use Rattle.firing.proofs.late.late_of.Given as goal
 
-abbrev pub invariant-loop-i : goal.invariant-loop-i
-invariant-loop-i l = (l.i ≤ l.count) × EndsAfter l.target l.from l.time l.i l.table l.late
-
-abbrev pub decreases-loop-i : goal.decreases-loop-i
-decreases-loop-i l = l.count - l.i
+abbrev pub invariant-loop-start : goal.invariant-loop-start
+invariant-loop-start l = l.late ≡ count_by (λ x. nat_lt l.target (x + l.time)) (take l.start-index l.starts)

@@ -1,4 +1,3 @@
-use Rattle.planner.specs.Making.{Begun}
 use Rattle.planner.proofs.WorkLaws.{small, back_small, firing_small}
 use Rattle.planner.proofs.making.begun.Goals as goal
 
@@ -11,12 +10,4 @@ start_firings-firings-requires c = let p = c.requires in (small p, (c.back_of-ba
 pub add-starts-requires : goal.add-starts-requires
 add-starts-requires c =
     let p = c.requires in
-    (p.ready.chain.few, λ v h. firing_small p c.back_of-back.ensures c.start_firings-firings.ensures v)
-
-pub lent-requires : goal.lent-requires
-lent-requires c =
-    let begun : Begun c.args.checked c.args.found c.back_of-back.result c.start_firings-firings.result c.add-starts.result = record { retimed = c.requires; backs = c.back_of-back.ensures; fires = c.start_firings-firings.ensures; adds = c.add-starts.ensures } in
-    begun
-
-pub returns : goal.returns
-returns c = c.lent.ensures
+    (c.args.checked.now.round.chain.fits.few, λ v h. firing_small p c.back_of-back.ensures c.start_firings-firings.ensures v)

@@ -1,26 +1,24 @@
 use mathlib.Core.Logic.{inl, inr}
-use native.Mathlib.Omega.{arith}
-use Rattle.planner.specs.Making.{HasRoom}
+use Rattle.refusals.specs.declared.refusal.Refusal.TheVariants.{Room}
 use Rattle.planner.proofs.StandLaws.{stand}
 use Rattle.planner.proofs.AnswerLaws.{answer_refused, answer_planned}
 use Rattle.planner.proofs.RowLaws.{short_refused}
 use Rattle.planner.proofs.making.lent.Goals as goal
+use Rattle.planner.proofs.making.lent.Goals.{then-start-starts-via-then-start-starts, then-start-starts-via-else-start-starts+then-round-total, then-start-starts-via-else-start-starts+else-round-total+then-times-total}
 
 pub returns-then-start-starts : goal.returns-then-start-starts
-returns-then-start-starts c = answer_refused 11 0 (λ e. omega arith) (short_refused c.requires _ _ _ (inl c.if-start-starts.true)) c.refused.ensures
+returns-then-start-starts c =
+    answer_refused Room
+    (short_refused c.requires _ _ _
+    (elim c.then-start-starts.branch [
+      | then-start-starts-via-then-start-starts w ↦ inl w.if-start-starts.true
+      | then-start-starts-via-else-start-starts+then-round-total w ↦ inr (inl w.if-round-total.true)
+      | then-start-starts-via-else-start-starts+else-round-total+then-times-total w ↦ inr (inr w.if-times-total.true)
+    ]))
 
-pub returns-then-round-checked : goal.returns-then-round-checked
-returns-then-round-checked c = answer_refused 11 0 (λ e. omega arith) (short_refused c.requires _ _ _ (inr (inl c.if-round-checked.true))) c.refused-then-round-checked.ensures
-
-pub returns-then-times-checked : goal.returns-then-times-checked
-returns-then-times-checked c = answer_refused 11 0 (λ e. omega arith) (short_refused c.requires _ _ _ (inr (inr c.if-times-checked.true))) c.refused-then-times-checked.ensures
-
-pub rooms_of-room-requires : goal.rooms_of-room-requires
-rooms_of-room-requires c =
-    let has_room : let a = c.args in HasRoom a.checked a.starts a.start.now a.round.now a.times.now = record { start_room = c.if-start-starts.false; round_room = c.if-round-checked.false; times_room = c.if-times-checked.false } in
-    stand c.requires c.write.ensures has_room
+pub rooms-room-requires : goal.rooms-room-requires
+rooms-room-requires c = stand c.requires c.write.ensures
 
 pub returns : goal.returns
 returns c =
-    let has_room : let a = c.args in HasRoom a.checked a.starts a.start.now a.round.now a.times.now = record { start_room = c.if-start-starts.false; round_room = c.if-round-checked.false; times_room = c.if-times-checked.false } in
-    answer_planned c.requires c.write.ensures has_room c.rooms_of-room.ensures c.shown.ensures
+    answer_planned c.requires c.write.ensures (record { start_room = c.if-start-starts.false; round_room = c.if-round-total.false; times_room = c.if-times-total.false }) c.rooms-room.ensures c.shown.ensures

@@ -1,17 +1,9 @@
-use Rattle.checks.proofs.CheckLaws.{ready_own}
+use Rattle.std.proofs.lemmas.Result.{err_from_is_err_and}
 use Rattle.planner.proofs.AnswerLaws.{check_refused, check_passed}
 use Rattle.planner.proofs.making.plan.Goals as goal
 
-pub returns-then-checked-ne0 : goal.returns-then-checked-ne0
-returns-then-checked-ne0 c =
-    let a = c.args in
-    check_refused c.check-checked.ensures a.start.now a.round.now a.times.now c.if-checked-ne0.true c.refused.ensures
-
-pub searched-requires : goal.searched-requires
-searched-requires c =
-    ready_own (c.check-checked.ensures.accepted c.if-checked-ne0.false)
+pub returns-in_err-check : goal.returns-in_err-check
+returns-in_err-check c = let p = err_from_is_err_and c.from_residual.result c.from_residual.ensures.1 in rw (p.1, p.2) (check_refused c.in_err-check.ensures)
 
 pub returns : goal.returns
-returns c =
-    let a = c.args in
-    check_passed c.check-checked.ensures a.start.now a.round.now a.times.now c.if-checked-ne0.false c.searched.ensures
+returns c = check_passed c.in_ok-check.ensures c.searched.ensures

@@ -7,6 +7,3 @@ write_list-requires c = let p = c.requires in (start_fireable p.0, (p.1.start_ro
 
 pub write_list-requires-2 : goal.write_list-requires-2
 write_list-requires-2 c = let p = c.requires in (round_fireable p.0.retimed, (p.1.round_room, round_completes p.0.retimed))
-
-pub write_times-requires : goal.write_times-requires
-write_times-requires c = let p = c.requires in (p.0.retimed.ready.few, p.1.times_room)

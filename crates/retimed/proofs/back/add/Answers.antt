@@ -1,30 +1,23 @@
-use Prim.Native.Nat.{◌≤◌}
-use mathlib.Core.Path.{◌≡◌, refl}
-use native.Mathlib.Omega.{arith}
-use borrow.Author.Rules.{rules}
-use Rattle.lists.specs.Front.{at}
-use Rattle.retimed.proofs.BackLaws.{add_more, sum_most}
+use Rattle.std.proofs.Common.{rules, tests, arith, ◌≡◌, ◌∙◌, ◌≤◌, ◌<◌, ◌^◌, take, length}
+use Rattle.std.specs.List.{sum_by}
+use Rattle.std.proofs.iter.runs.Made.{chains}
+use Rattle.std.proofs.lemmas.Iterator.{YieldsList-from_slice, YieldsList-from_map}
+use Rattle.std.proofs.lemmas.Iterator.Consumers.{YieldsList-at, fits_by_from_yields_list}
+use Rattle.retimed.proofs.BackLaws.{front_sum, sum_most}
 use Rattle.retimed.proofs.back.add.Goals as goal
 
-pub loop-v-init : goal.loop-v-init
-loop-v-init c = (search rules, refl)
-
-pub overflow_cast-total : goal.overflow_cast-total
-overflow_cast-total c =
-    let most : at c.args.firings.now c.loop-v.v ≤ 65280 = c.requires.1 c.loop-v.v c.loop-v-test.true in
-    omega (arith, most)
-
-pub overflow_add-total : goal.overflow_add-total
-overflow_add-total c =
-    let most : at c.args.firings.now c.loop-v.v ≤ 65280 = c.requires.1 c.loop-v.v c.loop-v-test.true in
-    let so_far : c.loop-v.total ≤ 2088960 = omega (arith, c.loop-v.invariant.1, sum_most c.loop-v.v c.args.firings.now (λ v h. c.requires.1 v (omega (arith, c.loop-v-test.true))), c.loop-v-test.true, c.requires.0) in
-    omega (arith, most, so_far)
-
-pub loop-v-preserved : goal.loop-v-preserved
-loop-v-preserved c =
-    (search rules, rw c.loop-v.invariant.1 (add_more c.args.firings.now c.loop-v.v))
+pub sum-requires-clause-fits : goal.sum-requires-clause-fits
+sum-requires-clause-fits c =
+    let l = c.args.firings.now in
+    let front = take c.args.n l in
+    let within : c.args.n ≤ length l = omega (arith, c.told-firings, c.requires.0) in
+    let small : sum_by (λ x. x) front < 2 ^ 64 = omega (arith, front_sum c.args.n l within, sum_most c.args.n l c.requires.1, c.requires.0) in
+    fits_by_from_yields_list (λ x. x) front c.map.result (2 ^ 64)
+    (YieldsList-from_map _ (λ x. x) (YieldsList-at c.map.ensures.source (YieldsList-from_slice front c.iter.ensures.rest)) c.map.ensures.closure (λ x r q k. search (rules, tests)))
+    small
 
 pub returns : goal.returns
 returns c =
-    let all : c.loop-v.v ≡ c.args.n = omega arith in
-    rw all at c.loop-v.invariant.1
+    let within : c.args.n ≤ length c.args.firings.now = omega (arith, c.told-firings, c.requires.0) in
+    let e : c.sum.result ≡ sum_by (λ x. x) (take c.args.n c.args.firings.now) = search (rules, chains) in
+    e ∙ front_sum c.args.n c.args.firings.now within

@@ -6,8 +6,10 @@ use Rattle.rooms.proofs.OutLaws.{LiftedBelow}
 use Rattle.rooms.proofs.lift.lift_from.Given as goal
 
 abbrev pub invariant-loop-e : goal.invariant-loop-e
-invariant-loop-e l =
-    (length l.room ≡ 64) × LiftedBelow l.m l.source l.v (HoldsBy l.source l.sink l.produced l.consumed l.delay l.fired) l.initial.room l.e l.room
+invariant-loop-e l = record {
+  long : length l.room ≡ 64;
+  so_far : LiftedBelow l.chain.m l.chain.source l.v (HoldsBy l.chain.source l.chain.sink l.chain.produced l.chain.consumed l.delay l.fired) l.initial.room l.e l.room;
+}
 
 abbrev pub decreases-loop-e : goal.decreases-loop-e
-decreases-loop-e l = l.m - l.e
+decreases-loop-e l = l.chain.m - l.e

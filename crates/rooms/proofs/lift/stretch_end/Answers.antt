@@ -1,19 +1,17 @@
-use native.Mathlib.Omega.{arith}
-use borrow.Author.Rules.{rules}
-use Rattle.rooms.proofs.StretchLaws.{same_one, same_more}
+use Rattle.std.proofs.Common.{rules, tests, ◌∙◌, drop}
+use Rattle.std.proofs.lemmas.Iterator.{YieldsList-from_slice}
+use Rattle.std.proofs.lemmas.Iterator.Search.{YieldsList-from_take_while}
+use Rattle.std.proofs.lemmas.Iterator.Consumers.{YieldsList-at, count_from_yields_List}
+use Rattle.std.proofs.lemmas.List.Folds.{length-prefix_len}
+use borrow.Author.Rules.{part_to_end}
+use Rattle.rooms.proofs.StretchLaws.{alike, stretch_found}
 use Rattle.rooms.proofs.lift.stretch_end.Goals as goal
 
-pub loop-end-init : goal.loop-end-init
-loop-end-init c = (search rules, (search rules, same_one c.args.list.now c.args.from))
-
-pub returns-then-list-end : goal.returns-then-list-end
-returns-then-list-end c =
-    record { some = c.loop-end.invariant.0; within = search rules; same = c.loop-end.invariant.1.1; ends = λ h e. c.if-list-end.true e }
-
-pub loop-end-preserved : goal.loop-end-preserved
-loop-end-preserved c =
-    let a = c.args in
-    (search rules, (search rules, same_more a.list.now a.from c.loop-end.end c.loop-end.invariant.1.1 c.if-list-end.false))
-
 pub returns : goal.returns
-returns c = record { some = c.loop-end.invariant.0; within = c.loop-end.invariant.1.0; same = c.loop-end.invariant.1.1; ends = λ l. absurd (omega arith) }
+returns c =
+    let a = c.args in
+    let p = alike a.list.now a.from in
+    let rest = drop a.from a.list.now in
+    let slice = YieldsList-from_slice rest (c.iter.ensures.rest ∙ part_to_end a.list.now a.from) in
+    let e = count_from_yields_List c.take_while.result c.count.result c.count.ensures.ran (YieldsList-from_take_while _ p (YieldsList-at c.take_while.ensures.source slice) c.take_while.ensures.closure c.take_while.ensures.done (λ x b q k. search (rules, tests))) in
+    rw (e, length-prefix_len p rest) (stretch_found a.list.now a.from c.requires)

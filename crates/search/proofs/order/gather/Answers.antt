@@ -1,73 +1,32 @@
-use Prim.Native.Nat.{◌≤◌, ◌<◌}
-use mathlib.Core.Path.{◌≡◌}
-use native.Mathlib.Omega.{arith}
-use borrow.Author.Rules.{rules}
-use Rattle.lists.specs.Front.{at}
+use Rattle.std.proofs.Common.{◌≡◌, refl, arith, length-take}
+use Rattle.firing.proofs.FireLaws.{entry_of}
 use Rattle.search.proofs.GatherLaws.{none_gathered, gathered_one, gathered_none, has_room, all_gathered}
 use Rattle.search.proofs.order.gather.Goals as goal
 use Rattle.search.proofs.order.gather.Goals.{then-is_between, else-is_between}
 
-pub loop-k-init : goal.loop-k-init
-loop-k-init c = (search rules, none_gathered _ _ _ _ _ _ c.requires.room)
-
-pub bounds-low-v : goal.bounds-low-v
-bounds-low-v c =
-    let station : c.wide-v.result < 32 = omega (arith, c.wide-v.ensures, c.requires.stations c.loop-k.k c.loop-k-test.true) in
-    omega (arith, station)
-
-pub bounds-fired-v : goal.bounds-fired-v
-bounds-fired-v c =
-    let station : c.wide-v.result < 32 = omega (arith, c.wide-v.ensures, c.requires.stations c.loop-k.k c.loop-k-test.true) in
-    omega (arith, station)
-
-pub bounds-high-v : goal.bounds-high-v
-bounds-high-v c =
-    let station : c.wide-v.result < 32 = omega (arith, c.wide-v.ensures, c.requires.stations c.loop-k.k c.loop-k-test.true) in
-    omega (arith, station)
-
-pub offset_bounds-order-place : goal.offset_bounds-order-place
-offset_bounds-order-place c =
-    let placed : c.loop-k.place < 256 = has_room _ _ _ _ _ _ c.requires c.loop-k.invariant.1 c.loop-k-test.true (rw c.wide-v.ensures.0 at (c.is_between.ensures.holds c.if-is_between.true)) in
-    omega (arith, placed)
+pub loop-station-init : goal.loop-station-init
+loop-station-init c = none_gathered _ _ _ _ _ _ c.requires.room
 
 pub bounds-order-place : goal.bounds-order-place
 bounds-order-place c =
-    let placed : c.loop-k.place < 256 = has_room _ _ _ _ _ _ c.requires c.loop-k.invariant.1 c.loop-k-test.true (rw c.wide-v.ensures.0 at (c.is_between.ensures.holds c.if-is_between.true)) in
-    omega (arith, placed)
+    let e = entry_of c.args.list.now c.args.total _ _ c.loop-station-test.true c.from-v.ensures in
+    has_room _ _ _ _ _ _ c.requires c.loop-station.invariant e.0 (rw e.1 at (c.is_between.ensures.holds c.if-is_between.true))
 
-pub overflow_add-place : goal.overflow_add-place
-overflow_add-place c =
-    let placed : c.loop-k.place < 256 = has_room _ _ _ _ _ _ c.requires c.loop-k.invariant.1 c.loop-k-test.true (rw c.wide-v.ensures.0 at (c.is_between.ensures.holds c.if-is_between.true)) in
-    omega (arith, placed)
-
-pub bounds-fired-v-in-loop-k : goal.bounds-fired-v-in-loop-k
-bounds-fired-v-in-loop-k c =
-    let station : c.wide-v.result < 32 = omega (arith, c.wide-v.ensures, c.requires.stations c.loop-k.k c.loop-k-test.true) in
-    omega (arith, station)
-
-pub overflow_add-fired : goal.overflow_add-fired
-overflow_add-fired c =
-    let firings : at c.loop-k.fired c.wide-v.result ≤ 256 = omega (arith, c.loop-k.invariant.1.few c.wide-v.result, c.loop-k-test.true, c.requires.few) in
-    omega (arith, firings)
-
-pub bounds-fired-v-in-loop-k-2 : goal.bounds-fired-v-in-loop-k-2
-bounds-fired-v-in-loop-k-2 c =
-    let station : c.wide-v.result < 32 = omega (arith, c.wide-v.ensures, c.requires.stations c.loop-k.k c.loop-k-test.true) in
-    omega (arith, station)
-
-pub loop-k-preserved : goal.loop-k-preserved
-loop-k-preserved c = (
-  search rules,
-  rw c.wide-v.ensures.0
-      (elim c.if-is_between.branch [
-        | then-is_between w ↦
-            rw (w.order-is, w.place-is) (gathered_one _ _ _ _ _ _ c.requires c.loop-k.invariant.1 c.loop-k-test.true (rw c.wide-v.ensures.0 at (c.is_between.ensures.holds w.if-is_between.true)))
-        | else-is_between w ↦
-            rw (w.order-is, w.place-is) (gathered_none _ _ _ _ _ _ c.requires c.loop-k.invariant.1 c.loop-k-test.true (λ b. c.is_between.ensures.fails w.if-is_between.false (rw c.wide-v.ensures.0 b)))
-      ]),
-)
+pub loop-station-preserved : goal.loop-station-preserved
+loop-station-preserved c =
+    let h = c.loop-station-test.true in
+    let e = entry_of c.args.list.now c.args.total _ _ h c.from-v.ensures in
+    let stored = (entry_of c.args.list.now c.args.total c.loop-station.station-index _ h refl).1 in
+    let told = rw e.1 at c.is_between.ensures in
+    rw e.1
+    (elim c.if-is_between.branch [
+      | then-is_between w ↦
+          rw (w.order-is, w.place-is, stored) (gathered_one _ _ _ _ _ _ c.requires c.loop-station.invariant e.0 (told.holds w.if-is_between.true))
+      | else-is_between w ↦
+          rw (w.order-is, w.place-is) (gathered_none _ _ _ _ _ _ c.requires c.loop-station.invariant e.0 (told.fails w.if-is_between.false))
+    ])
 
 pub returns : goal.returns
 returns c =
-    let all : c.loop-k.k ≡ c.args.total = omega arith in
-    all_gathered _ _ _ _ _ _ c.requires (rw all at c.loop-k.invariant.1)
+    let all : c.loop-station.station-index ≡ c.args.total = omega (arith, length-take c.args.total c.args.list.now, c.requires.long) in
+    all_gathered _ _ _ _ _ _ c.requires (rw all at c.loop-station.invariant)

@@ -1,9 +1,6 @@
 use Rattle.search.proofs.OrderLaws.{second_fits, first_fits, reordered}
 use Rattle.search.proofs.order.reorder.Goals as goal
 
-pub kept-keep-requires : goal.kept-keep-requires
-kept-keep-requires c = (c.requires.few, λ v h. c.requires.lates v)
-
 pub gather-place-requires : goal.gather-place-requires
 gather-place-requires c = second_fits c.requires c.kept-keep.ensures
 

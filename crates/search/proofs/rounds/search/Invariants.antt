@@ -1,10 +1,6 @@
-use Prim.Native.Nat.{◌-◌, ◌≤◌}
 use Rattle.search.proofs.UnderwayLaws.{Underway}
 use Rattle.search.proofs.rounds.search.Given as goal
 
 abbrev pub invariant-loop-rounds : goal.invariant-loop-rounds
 invariant-loop-rounds l =
-    (l.rounds ≤ 256) × Underway l.n l.m l.source l.sink l.produced l.consumed l.delay l.time l.q l.total l.target l.retiming l.current l.order l.rounds
-
-abbrev pub decreases-loop-rounds : goal.decreases-loop-rounds
-decreases-loop-rounds l = 256 - l.rounds
+    Underway l.round.chain.n l.round.chain.m l.round.chain.source l.round.chain.sink l.round.chain.produced l.round.chain.consumed l.delay l.time l.round.q l.round.total l.target l.retiming l.current l.order l.rounds

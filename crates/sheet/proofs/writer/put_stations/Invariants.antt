@@ -1,4 +1,4 @@
-use Prim.Native.Nat.{◌*◌, ◌≤◌, ◌-◌}
+use Prim.Native.Nat.{◌*◌}
 use mathlib.Core.Path.{◌≡◌}
 use lib.ListN.{length}
 use Rattle.lists.specs.Put.{Wrote}
@@ -8,7 +8,4 @@ use Rattle.sheet.proofs.writer.put_stations.Given as goal
 
 abbrev pub invariant-loop-i : goal.invariant-loop-i
 invariant-loop-i l =
-    (l.i ≤ l.n) × ((length l.out ≡ length l.initial.out) × Wrote l.initial.out 20 (joined l.i (station_bytes l.tag l.time)) (4 * l.i) l.out)
-
-abbrev pub decreases-loop-i : goal.decreases-loop-i
-decreases-loop-i l = l.n - l.i
+    (length l.out ≡ length l.initial.out) × Wrote l.initial.out 20 (joined l.i (station_bytes l.fields.tag.now l.fields.time.now)) (4 * l.i) l.out
