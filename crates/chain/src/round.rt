@@ -7,7 +7,7 @@ ghost use Rattle.chain.specs.Chain.{CountedChain};
 
 use crate::chain::Chain;
 
-// A chain with counts that balance it, their sum, and where the copies of each station begin in the time table.
+// A chain with counts that balance it, their sum, and where the copies of each station begin in the time table. Columns of a fixed length: there is no heap.
 #[derive(Clone, Copy)]
 pub struct Round {
     pub chain: Chain,
@@ -41,6 +41,7 @@ pub fn bases(n: usize, q: &[u32; 32]) -> [u32; 33]
     ensures { Bases n q.now result }
 {
     let mut base = [0u32; 33];
+    // By place: each entry is made of the one before it.
     for v in 0..n {
         base[v + 1] = base[v] + q[v];
     }

@@ -49,7 +49,7 @@ pub fn late_counts(
     ensures { LateCounts n q.now time.now target table.now result }
 {
     let mut late = [0u32; 32];
-    // By place, as in `chain::widened`; and `from_fn` would need a test for the entries that stay 0.
+    // By place, as in `chain::widen`; and `from_fn` would need a test for the entries that stay 0.
     for v in 0..n {
         let starts = &table[base[v] as usize..base[v + 1] as usize];
         late[v] = late_of(starts, u32::from(time[v]), target);

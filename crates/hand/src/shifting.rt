@@ -26,6 +26,7 @@ pub(crate) fn new_delays(checked: &Checked, hand: &[i32]) -> Result<[u32; 64], R
 {
     let chain = &checked.round.chain;
     let mut new = [0u32; 64];
+    // By place, as in `chain::widen`; and it ends at the first queue that loses more than it has.
     for e in 0..chain.m {
         let Some(delay) = left(
             checked.delay[e],

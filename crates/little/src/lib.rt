@@ -25,6 +25,7 @@ pub fn column(s: &[u8], base: usize, step: usize, count: usize, out: &mut [u16])
     requires { Apart base step count (length s.now) (length out.old) }
     ensures { out.new ≡ front count (column_at s.now base step) out.old }
 {
+    // By place: behind an `iter_mut` nothing is known of the entries.
     for i in 0..count {
         out[i] = u16_at(s, base + step * i);
     }

@@ -19,7 +19,7 @@ pub(crate) fn write_list(
     firing::fire_list(chain, total, delay, wanted, list);
 }
 
-// Writes the time table over the first entries. One pass over it.
+// Writes the time table, which stands in the first entries of a column for any round, over the first entries. One pass over it.
 pub(crate) fn write_times(total: usize, table: &[u32; 256], times: &mut [u32])
     requires { (total ≤ 256) × (total ≤ length times.old) }
     ensures { times.new ≡ front total (at table.now) times.old }

@@ -47,7 +47,7 @@ impl Refusal {
         }
     }
 
-    // The queue that it names, or 0.
+    // The queue that it names, or 0, and no `Option`: the printed line and C's structs say 0 where none is named.
     pub fn place(self) -> u32
         ensures { result ≡ place_of self }
     {

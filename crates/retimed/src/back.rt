@@ -24,7 +24,7 @@ pub fn start_firings(n: usize, q: &[u32; 32], retiming: &[u32; 32], back: u32) -
     ensures { StartFirings n q.now retiming.now back result }
 {
     let mut firings = [0u32; 32];
-    // By place, as in `chain::widened`: a zip of three columns is no plainer, and `from_fn` would need a test for the entries that stay 0.
+    // By place, as in `chain::widen`: a zip of three columns is no plainer, and `from_fn` would need a test for the entries that stay 0.
     for v in 0..n {
         firings[v] = back * q[v] - retiming[v];
     }

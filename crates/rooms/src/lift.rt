@@ -44,7 +44,7 @@ pub(crate) fn lift_over(chain: &Chain, delay: &[u32; 64], list: &[u16], room: &m
 {
     let mut fired = [0u32; 32];
     let mut k = 0;
-    // Slices have no `chunk_by` here, and that of itertools allocates.
+    // From stretch to stretch, by `stretch_end`, of which a law of uniqueness speaks.
     while k < list.len() {
         let v = usize::from(list[k]);
         let end = stretch_end(list, k);

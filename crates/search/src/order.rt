@@ -20,7 +20,7 @@ fn kept(n: usize, q: &[u32; 32], late: &[u32; 32]) -> [u32; 32]
     ensures { Keeps n q.now late.now result }
 {
     let mut keep = [0u32; 32];
-    // By place, as in `chain::widened`; and `from_fn` would need a test for the entries that stay 0.
+    // By place, as in `chain::widen`; and `from_fn` would need a test for the entries that stay 0.
     for v in 0..n {
         keep[v] = q[v] - late[v];
     }

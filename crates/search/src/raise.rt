@@ -11,7 +11,7 @@ pub(crate) fn new_delays(chain: &Chain, late: &[u32; 32], delay: &[u32; 64]) -> 
     ensures { NewDelays chain.now.m chain.now.source chain.now.sink chain.now.produced chain.now.consumed late.now delay.now result }
 {
     let mut new = [0u32; 64];
-    // By place, as in `chain::widened`; and `from_fn` would need a test for the entries that stay 0.
+    // By place, as in `chain::widen`; and `from_fn` would need a test for the entries that stay 0.
     for e in 0..chain.m {
         let taken = u32::from(chain.consumed[e]) * late[usize::from(chain.sink[e])];
         let made = u32::from(chain.produced[e]) * late[usize::from(chain.source[e])];
@@ -26,7 +26,7 @@ pub(crate) fn raised(n: usize, late: &[u32; 32], retiming: &[u32; 32]) -> [u32; 
     ensures { Raised n late.now retiming.now result }
 {
     let mut new = [0u32; 32];
-    // By place, as in `chain::widened`; and `from_fn` would need a test for the entries that stay 0.
+    // By place, as in `chain::widen`; and `from_fn` would need a test for the entries that stay 0.
     for v in 0..n {
         new[v] = retiming[v] + late[v];
     }
