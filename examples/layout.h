@@ -34,7 +34,7 @@ REFUSAL(SLOW, 14);
 REFUSAL(TOKEN, 15);
 REFUSAL(UNBALANCED, 16);
 
-/* Planning, crates/planner */
+/* Planning, crates/exports */
 SIZE(planning, 1024);
 FIELD(planning, number, 0, 4);
 FIELD(planning, place, 4, 4);
@@ -66,25 +66,25 @@ FIELD(sheet, produced, 412, 128);
 FIELD(sheet, consumed, 540, 128);
 FIELD(sheet, delay, 668, 128);
 
-/* Reading, crates/sheet */
+/* Reading, crates/exports */
 SIZE(reading, 808);
 FIELD(reading, number, 0, 4);
 FIELD(reading, place, 4, 4);
 FIELD(reading, sheet, 8, 800);
 
-/* Written, crates/sheet */
+/* Written, crates/exports */
 SIZE(written, 16);
 FIELD(written, number, 0, 4);
 FIELD(written, place, 4, 4);
 FIELD(written, length, 8, 8);
 
-/* HandPeriod, crates/hand */
+/* HandPeriod, crates/exports */
 SIZE(hand_period, 12);
 FIELD(hand_period, number, 0, 4);
 FIELD(hand_period, place, 4, 4);
 FIELD(hand_period, period, 8, 4);
 
-/* Moved, crates/moves */
+/* Moved, crates/exports */
 SIZE(moved, 16);
 FIELD(moved, number, 0, 4);
 FIELD(moved, place, 4, 4);

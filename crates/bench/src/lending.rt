@@ -1,5 +1,5 @@
 // Kind 2: a sheet is planned with buffers of any length.
-use crate::taking::{Fault, Malformed, Rest};
+use crate::taking::{Fault, Rest};
 use std::fmt;
 
 // How many entries at the end still hold the filler.
@@ -28,18 +28,22 @@ fn show(
 // Three lengths, at most those that no plan outgrows, and a sheet.
 pub(crate) fn answer(out: &mut impl fmt::Write, body: &[u8]) -> Result<(), Fault> {
     let mut rest = Rest(body);
-    let mut start = [u16::MAX; 65536];
-    let mut round = [u16::MAX; 256];
-    let mut times = [u32::MAX; 256];
     let starts = rest.u32()? as usize;
     let rounds = rest.u32()? as usize;
     let tables = rest.u32()? as usize;
+    if 65536 < starts || 256 < rounds || 256 < tables {
+        return Err(Fault::Malformed);
+    }
+    // Filled only now: on a question that can't be taken apart the fill would be most of the time.
+    let mut start = [u16::MAX; 65536];
+    let mut round = [u16::MAX; 256];
+    let mut times = [u32::MAX; 256];
     show(
         out,
         rest.0,
-        start.get_mut(..starts).ok_or(Malformed)?,
-        round.get_mut(..rounds).ok_or(Malformed)?,
-        times.get_mut(..tables).ok_or(Malformed)?,
+        &mut start[..starts],
+        &mut round[..rounds],
+        &mut times[..tables],
     )?;
     Ok(())
 }

@@ -55,7 +55,8 @@ fn lines(out: &mut impl fmt::Write, index: u64, question: Question) -> fmt::Resu
 // Answers question by question, up to the end of the input.
 fn run(input: &mut impl Read, out: impl io::Write + Drop) -> Result<(), Failure> {
     let mut space = [0u8; 70000];
-    let mut page = Page::new(out);
+    let mut lent = [0u8; 4096];
+    let mut page = Page::new(out, &mut lent);
     for index in 0..u64::MAX {
         let Some(question) = next(input, &mut space)? else {
             return Ok(());

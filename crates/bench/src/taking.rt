@@ -1,4 +1,8 @@
 // The parts of a question's body, taken from its front. Numbers are little-endian.
+ghost use Rattle.std.specs.Prelude.{◌≡◌};
+ghost use Rattle.little.specs.Little.{u16le, u32le};
+ghost use Rattle.bench.specs.Taken.{u64le, i32le, Takes};
+
 use refusals::Refusal;
 use std::fmt;
 
@@ -37,26 +41,41 @@ impl From<fmt::Error> for Fault {
 pub(crate) struct Rest<'a>(pub(crate) &'a [u8]);
 
 impl<'a> Rest<'a> {
-    fn front<const N: usize>(&mut self) -> Result<[u8; N], Malformed> {
-        let (front, behind) = self.0.split_first_chunk().ok_or(Malformed)?;
-        self.0 = behind;
-        Ok(*front)
+    // Goes past n bytes, and gives them with all that stands behind them.
+    pub(crate) fn past(&mut self, n: usize) -> Result<&'a [u8], Malformed>
+        ensures { Takes n (λ s x. x.now ≡ s) self.old.0.now self.new.0.now result }
+    {
+        let taken = self.0;
+        self.0 = taken.get(n..).ok_or(Malformed)?;
+        Ok(taken)
     }
 
-    pub(crate) fn u16(&mut self) -> Result<u16, Malformed> {
-        Ok(u16::from_le_bytes(self.front()?))
+    pub(crate) fn u16(&mut self) -> Result<u16, Malformed>
+        ensures { Takes 2 (λ s x. x ≡ u16le s 0) self.old.0.now self.new.0.now result }
+    {
+        Ok(little::u16_at(self.past(2)?, 0))
     }
 
-    pub(crate) fn u32(&mut self) -> Result<u32, Malformed> {
-        Ok(u32::from_le_bytes(self.front()?))
+    pub(crate) fn u32(&mut self) -> Result<u32, Malformed>
+        ensures { Takes 4 (λ s x. x ≡ u32le s 0) self.old.0.now self.new.0.now result }
+    {
+        Ok(little::u32_at(self.past(4)?, 0))
     }
 
-    pub(crate) fn u64(&mut self) -> Result<u64, Malformed> {
-        Ok(u64::from_le_bytes(self.front()?))
+    // The lower half first.
+    pub(crate) fn u64(&mut self) -> Result<u64, Malformed>
+        ensures { Takes 8 (λ s x. x ≡ u64le s) self.old.0.now self.new.0.now result }
+    {
+        let taken = self.past(8)?;
+        let low = u64::from(little::u32_at(taken, 0));
+        Ok(low + (u64::from(little::u32_at(taken, 4)) << 32))
     }
 
-    // Two's complement.
-    pub(crate) fn i32(&mut self) -> Result<i32, Malformed> {
-        Ok(i32::from_le_bytes(self.front()?))
+    // Two's complement: the highest bit counts below 0.
+    pub(crate) fn i32(&mut self) -> Result<i32, Malformed>
+        ensures { Takes 4 (λ s x. x ≡ i32le s) self.old.0.now self.new.0.now result }
+    {
+        let bits = self.u32()?;
+        Ok(signed::difference(bits % (1 << 31), bits / (1 << 31) * (1 << 31)))
     }
 }

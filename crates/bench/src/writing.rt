@@ -1,5 +1,5 @@
 // Kind 4: fields are written as a sheet to a lent buffer.
-ghost use Rattle.std.specs.Prelude.{◌≤◌};
+ghost use Rattle.std.specs.Prelude.{◌≤◌, length};
 
 use crate::taking::{Fault, Malformed, Rest};
 use sheet::Fields;
@@ -50,10 +50,9 @@ impl Taken {
         if 100 < count {
             return Err(Malformed);
         }
-        for v in 0..count {
-            self.tag[v] = rest.u16()?;
-            self.time[v] = rest.u16()?;
-        }
+        let body = rest.past(4 * count)?;
+        little::column(body, 0, 4, count, &mut self.tag);
+        little::column(body, 2, 4, count, &mut self.time);
         self.a = count;
         Ok(())
     }
@@ -64,13 +63,12 @@ impl Taken {
         if 200 < count {
             return Err(Malformed);
         }
-        for e in 0..count {
-            self.source[e] = rest.u16()?;
-            self.sink[e] = rest.u16()?;
-            self.produced[e] = rest.u16()?;
-            self.consumed[e] = rest.u16()?;
-            self.delay[e] = rest.u16()?;
-        }
+        let body = rest.past(10 * count)?;
+        little::column(body, 0, 10, count, &mut self.source);
+        little::column(body, 2, 10, count, &mut self.sink);
+        little::column(body, 4, 10, count, &mut self.produced);
+        little::column(body, 6, 10, count, &mut self.consumed);
+        little::column(body, 8, 10, count, &mut self.delay);
         self.b = count;
         Ok(())
     }
@@ -93,8 +91,21 @@ impl Taken {
     }
 }
 
+// At most 2,000 bytes, as two hexadecimal digits each. Made all at once: `{:02x}` pads each byte by itself, and a whole answer takes up to seven times as long. Neither error can come: there is room for
+// the digits, and digits are text.
+fn show_bytes(out: &mut impl fmt::Write, bytes: &[u8]) -> fmt::Result
+    requires { length bytes.now ≤ 2000 }
+{
+    let mut room = [0u8; 4000];
+    let digits = &mut room[..2 * bytes.len()];
+    hex::encode_to_slice(bytes, digits).map_err(|_| fmt::Error)?;
+    out.write_str(str::from_utf8(digits).map_err(|_| fmt::Error)?)
+}
+
 // Writes the fields to the lent bytes, and shows the answer and those bytes.
-fn show(out: &mut impl fmt::Write, taken: &Taken, lent: &mut [u8]) -> fmt::Result {
+fn show(out: &mut impl fmt::Write, taken: &Taken, lent: &mut [u8]) -> fmt::Result
+    requires { length lent.old ≤ 2000 }
+{
     match sheet::write(&taken.fields(), lent) {
         Ok(length) => writeln!(out, "written {length}")?,
         Err(refusal) => writeln!(out, "{refusal}")?,
@@ -103,9 +114,7 @@ fn show(out: &mut impl fmt::Write, taken: &Taken, lent: &mut [u8]) -> fmt::Resul
     if !lent.is_empty() {
         write!(out, " ")?;
     }
-    for byte in &*lent {
-        write!(out, "{byte:02x}")?;
-    }
+    show_bytes(out, lent)?;
     writeln!(out)
 }
 

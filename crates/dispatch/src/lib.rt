@@ -4,7 +4,7 @@
 ghost use Rattle.dispatch.specs.Handed.{Handed};
 
 // The rest of the start list or of the round list, as a part of the list that is lent.
-pub fn rest<'a, 'b: 'a>(start: &'a [u16], round: &'b [u16], done: u64) -> &'a [u16]
+pub fn rest<'a>(start: &'a [u16], round: &'a [u16], done: u64) -> &'a [u16]
     ensures { Handed start.entry round.entry done result }
 {
     let fired = done as usize;

@@ -8,8 +8,8 @@ use std::marker::Model;
 
 const BASE: u64 = 1 << 56;
 
-// A number that contracts see as itself.
-#[derive(Drop)]
+// A number that contracts see as itself. It isn't `Copy`, which asks for a formula that gives the limbs back from the number; they are copied by way of their array.
+#[derive(Debug, Drop)]
 pub struct Limbs {
     limbs: [u64; 4],
 }
@@ -39,12 +39,29 @@ impl PartialEq for Limbs {
     }
 }
 
+impl Eq for Limbs {
+    ghost use Rattle.std.specs.Cmp.{nat_eq_equiv};
+
+    ghost laws = { nat_eq_equiv };
+}
+
 // A rate as a number of four limbs.
 impl From<u16> for Limbs {
     ghost from_gives = { λ rate r. r ≡ rate };
 
     fn from(rate: u16) -> Limbs {
         Limbs::new([u64::from(rate), 0, 0, 0])
+    }
+}
+
+// The limbs that a number stands in, the lowest first.
+impl From<&Limbs> for [u64; 4] {
+    ghost use Rattle.limbs.specs.Value.{StandsFor};
+
+    ghost from_gives = { λ x r. StandsFor r x.now };
+
+    fn from(number: &Limbs) -> [u64; 4] {
+        number.limbs
     }
 }
 

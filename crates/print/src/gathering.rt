@@ -1,21 +1,18 @@
 // Text on its way to a writer: it is gathered in a page and written a page at a time.
-ghost use Rattle.std.specs.Prelude.{◌≤◌, ◌≡◌, Some, IsOk, OnOk};
+ghost use Rattle.std.specs.Prelude.{◌≤◌, ◌≡◌, Some, IsOk, OnOk, length};
 ghost use Rattle.std.specs.Option.{ForSome};
 ghost use Rattle.std.specs.Io.KnownBytes.{Appends};
-ghost use Rattle.print.specs.declared.gathering.TheConstants.{SIZE};
 
 use std::{fmt, io};
 
-const SIZE: usize = 4096;
-
-// How many bytes at the start of the page are still to be written, or that a write failed: then nothing more is gathered and nothing more is
-// written, and what the writer has is the beginning of the text. The page has a fixed size: there is no heap.
+// How many bytes at the start of a lent page are still to be written, or that a write failed: then nothing more is gathered and nothing more is
+// written, and what the writer has is the beginning of the text.
 #[derive(Drop)]
-pub struct Page<W> {
-    out: W,
-    bytes: [u8; SIZE],
-    held: Option<usize>,
-    ghost within: { ForSome held (λ n. n ≤ SIZE) },
+pub struct Page<'a, W> {
+    pub out: W,
+    pub bytes: &'a mut [u8],
+    pub held: Option<usize>,
+    ghost within: { ForSome held (λ n. n ≤ length bytes.now) },
 }
 
 // Writes all of these bytes, or stops at the first write that takes nothing or fails. `write_all` would go on behind a write that a signal broke off, which counts as
@@ -33,27 +30,32 @@ fn write_whole<W: io::Write>(out: &mut W, bytes: &[u8]) -> fmt::Result
     Ok(())
 }
 
-impl<W: io::Write> Page<W> {
+impl<'a, W: io::Write> Page<'a, W> {
     ghost use Rattle.print.specs.Gathering.{Flushed, Gathers, RoomFor};
 
-    pub fn new(out: W) -> Page<W>
+    pub fn new(out: W, bytes: &'a mut [u8]) -> Page<'a, W>
         ensures writer { result.out ≡ out }
         ensures empty { result.held ≡ Some 0 }
+        ensures lent { (result.bytes.ghost_name ≡ bytes.entry.ghost_name) × (result.bytes.now ≡ bytes.old) }
     {
         Page {
             out,
-            bytes: [0; SIZE],
+            bytes,
             held: Some(0),
         }
     }
 
-    // Writes what the page holds. It stands on its own in the program, so that the code that gathers a piece stays short.
+    // Writes what the page holds. It stands on its own in the program, so that the code that gathers a piece stays short. The lent bytes are taken out while they are read: behind the struct's `&mut`
+    // only their number would be known to stay.
     #[inline(never)]
     pub fn flush(&mut self) -> fmt::Result
         ensures { Flushed W.contents self.old self.new result }
     {
         let held = self.held.take().ok_or(fmt::Error)?;
-        write_whole(&mut self.out, &self.bytes[..held])?;
+        let bytes = std::mem::take(&mut self.bytes);
+        let written = write_whole(&mut self.out, &bytes[..held]);
+        self.bytes = bytes;
+        written?;
         self.held = Some(0);
         Ok(())
     }
@@ -63,11 +65,12 @@ impl<W: io::Write> Page<W> {
         ensures { RoomFor W.contents n self.old self.new result }
     {
         let held = self.held.ok_or(fmt::Error)?;
-        if SIZE < n {
+        let size = self.bytes.len();
+        if size < n {
             self.held = None;
             return Err(fmt::Error);
         }
-        if held <= SIZE - n {
+        if held <= size - n {
             return Ok(held);
         }
         self.flush()?;
@@ -86,7 +89,7 @@ impl<W: io::Write> Page<W> {
     }
 }
 
-impl<W: io::Write> fmt::Write for Page<W> {
+impl<W: io::Write> fmt::Write for Page<'_, W> {
     ghost use Rattle.print.specs.Gathering.{Gathers, text_of};
 
     ghost write_str_gives = { λ page s page'. Appends (text_of W.contents page) (text_of W.contents page') s };

@@ -6,11 +6,27 @@ ghost use Rattle.planner.specs.Fits.{Fits};
 
 use planner::PlanNumbers;
 use refusals::Refusal;
+use std::convert::AsSlice;
 use std::fmt;
 
+// A word, of any bytes. Those that are no text are shown by U+FFFD, since only text can be written.
+fn heading(out: &mut impl fmt::Write, word: &[u8]) -> fmt::Result {
+    for part in word.utf8_chunks() {
+        out.write_str(part.valid())?;
+        if !part.invalid().is_empty() {
+            out.write_char(char::REPLACEMENT_CHARACTER)?;
+        }
+    }
+    Ok(())
+}
+
 // A word and the entries of a list behind it; an empty list prints its word alone.
-pub fn list<T: fmt::Display>(out: &mut impl fmt::Write, word: &str, entries: &[T]) -> fmt::Result {
-    write!(out, "{word}")?;
+pub fn list<T: fmt::Display>(
+    out: &mut impl fmt::Write,
+    word: impl AsSlice<u8> + Drop,
+    entries: &[T],
+) -> fmt::Result {
+    heading(out, word.as_slice())?;
     for entry in entries {
         write!(out, " {entry}")?;
     }

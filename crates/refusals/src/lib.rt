@@ -2,5 +2,7 @@
 #![tactic(auto)]
 
 mod refusal;
+mod wording;
 
 pub use refusal::Refusal;
+pub use wording::{line, word};

@@ -3,6 +3,7 @@ ghost use Rattle.std.specs.Prelude.{◌≡◌};
 ghost use Rattle.refusals.specs.Table.{word};
 ghost use Rattle.refusals.specs.Refused.{number_of, place_of, kind_of};
 
+use crate::wording::{self, line};
 use std::fmt;
 
 #[derive(Clone, Copy, PartialEq, Eq)]
@@ -60,35 +61,13 @@ impl Refusal {
     pub fn word(self) -> &'static str
         ensures { result.now ≡ word (kind_of self) }
     {
-        match self {
-            Refusal::Short => "short",
-            Refusal::Version => "version",
-            Refusal::Counts => "counts",
-            Refusal::Layout => "layout",
-            Refusal::Field(_) => "field",
-            Refusal::Apart => "apart",
-            Refusal::CountsFail => "counts-fail",
-            Refusal::Stuck => "stuck",
-            Refusal::NoRetiming => "no-retiming",
-            Refusal::Room => "room",
-            Refusal::Hand => "hand",
-            Refusal::Negative(_) => "negative",
-            Refusal::Slow => "slow",
-            Refusal::Token => "token",
-            Refusal::Unbalanced(_) => "unbalanced",
-        }
+        wording::word(self.number()).unwrap()
     }
 }
 
 // The one line of a refusal, without its end.
 impl fmt::Display for Refusal {
     fn fmt<W: fmt::Write>(&self, f: &mut fmt::Formatter<W>) -> fmt::Result {
-        write!(
-            f,
-            "refused {} {} place {}",
-            self.number(),
-            self.word(),
-            self.place()
-        )
+        line(f, self.number(), self.place())
     }
 }

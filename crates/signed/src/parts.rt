@@ -14,7 +14,6 @@ pub fn down(x: i32) -> u32
     x.min(0).unsigned_abs()
 }
 
-// Only the laws of whole numbers speak of it; it stays, since the pages name it.
 pub fn difference(up: u32, down: u32) -> i32
     requires { (up < 2 ^ 31) × (down ≤ 2 ^ 31) }
     ensures { result ≡ pos up -ℤ pos down }
