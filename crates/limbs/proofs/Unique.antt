@@ -8,7 +8,7 @@ use Rattle.lists.proofs.TestLaws.{tells_once}
 use Rattle.limbs.specs.Value.{StandsFor}
 use Rattle.limbs.proofs.ValueLaws.{same_limbs}
 
--- of the limbs that a number stands in: those of a rate, and of a product
+-- of the limbs that a number stands in: an array made from a `Limbs`
 pub stands_for_unique : (x : ℕ) (l l' : List ℕ) → StandsFor l x → StandsFor l' x → l ≡ l'
 stands_for_unique x l l' p q = same_limbs l l' (p.proper.long ∙ sym q.proper.long) p.proper.small q.proper.small (p.is ∙ sym q.is)
 
